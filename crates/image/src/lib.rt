@@ -1,0 +1,4 @@
+// The image of a ring of rows: its bytes, what can be wrong with them, and the rows that they hold.
+pub mod element;
+pub mod fault;
+pub mod kind;
