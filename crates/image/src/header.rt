@@ -1,0 +1,130 @@
+// The six numbers at the start of an image, and what can be wrong with them.
+ghost use mathlib.Core.Path.{_≡_};
+ghost use Prim.Native.Nat.{_≤_};
+ghost use lib.ListN.{length};
+ghost use Rattle.image.specs.Faults.{unless};
+ghost use Rattle.image.specs.Headers.{header-in, length-fault, kind-fault, span-fault, held-fault, head-kept, head-fault, offset-fault, total-fault, header-fault, front-fault, kind-read};
+ghost use Rattle.image.specs.Kinds.{number-of-kind};
+use crate::fault::ImageFault;
+use crate::kind::Kind;
+use crate::number::read_u32;
+use crate::row::HEADER;
+use crate::row::ROW;
+
+// The most rows that an image can have room for.
+pub const MOST_ROWS: u32 = 3_000;
+
+// The most bytes that an image can have: those of its header and of that many rows.
+pub const MOST_BYTES: usize = 60_024;
+
+#[derive(Clone, Copy)]
+pub struct Header {
+    pub(crate) kind: u32,
+    // How many rows there is room for.
+    pub(crate) span: u32,
+    // How many rows are held.
+    pub(crate) held: u32,
+    // The place that is written next.
+    pub(crate) head: u32,
+    pub(crate) offset: u32,
+    pub(crate) total: u32,
+}
+
+fn read_header(bytes: &[u8]) -> Header
+    requires { ⌜ 24 ≤ length (now bytes) ⌝ }
+    ensures { λ r. ⌜ r ≡ header-in (now (bytes .entry)) ⌝ }
+{
+    Header {
+        kind: read_u32(bytes, 0),
+        span: read_u32(bytes, 4),
+        held: read_u32(bytes, 8),
+        head: read_u32(bytes, 12),
+        offset: read_u32(bytes, 16),
+        total: read_u32(bytes, 20),
+    }
+}
+
+fn check_length(len: usize) -> Result<(), ImageFault>
+    ensures { λ r. ⌜ r ≡ unless (length-fault len) tt ⌝ }
+{
+    if len < HEADER || len > MOST_BYTES {
+        return Err(ImageFault::Length);
+    }
+    Ok(())
+}
+
+fn kind_fault(header: &Header, kind: Kind) -> Option<ImageFault>
+    ensures { λ r. ⌜ r ≡ kind-fault (number-of-kind kind) (now (header .entry)) ⌝ }
+{
+    if header.kind != kind.number() { Some(ImageFault::Kind) } else { None }
+}
+
+fn span_fault(header: &Header) -> Option<ImageFault>
+    ensures { λ r. ⌜ r ≡ span-fault (now (header .entry)) ⌝ }
+{
+    if header.span < 1 || header.span > MOST_ROWS { Some(ImageFault::Span) } else { None }
+}
+
+fn held_fault(header: &Header) -> Option<ImageFault>
+    ensures { λ r. ⌜ r ≡ held-fault (now (header .entry)) ⌝ }
+{
+    if header.held > header.span { Some(ImageFault::Held) } else { None }
+}
+
+// Until the ring is full, the next place is the one after the rows held; then it goes round.
+fn head_kept(header: &Header) -> bool
+    ensures { λ r. ⌜ r ≡ head-kept (now (header .entry)) ⌝ }
+{
+    if header.held < header.span { header.head == header.held } else { header.head < header.span }
+}
+
+fn head_fault(header: &Header) -> Option<ImageFault>
+    ensures { λ r. ⌜ r ≡ head-fault (now (header .entry)) ⌝ }
+{
+    if head_kept(header) { None } else { Some(ImageFault::Head) }
+}
+
+fn offset_fault(header: &Header) -> Option<ImageFault>
+    ensures { λ r. ⌜ r ≡ offset-fault (now (header .entry)) ⌝ }
+{
+    if header.offset != 24 { Some(ImageFault::Offset) } else { None }
+}
+
+fn total_fault(header: &Header, len: usize) -> Option<ImageFault>
+    ensures { λ r. ⌜ r ≡ total-fault len (now (header .entry)) ⌝ }
+{
+    let total = header.total as usize;
+    if total != HEADER + ROW * header.span as usize || total != len { Some(ImageFault::Total) } else { None }
+}
+
+// The first that applies.
+fn header_fault(header: &Header, kind: Kind, len: usize) -> Option<ImageFault>
+    ensures { λ r. ⌜ r ≡ header-fault (number-of-kind kind) len (now (header .entry)) ⌝ }
+{
+    kind_fault(header, kind)
+        .or(span_fault(header))
+        .or(held_fault(header))
+        .or(head_fault(header))
+        .or(offset_fault(header))
+        .or(total_fault(header, len))
+}
+
+// The header of an image of this kind, or the first fault of its length and its header.
+pub(crate) fn open_header(bytes: &[u8], kind: Kind) -> Result<Header, ImageFault>
+    ensures { λ r. ⌜ r ≡ unless (front-fault (number-of-kind kind) (now (bytes .entry))) (header-in (now (bytes .entry))) ⌝ }
+{
+    check_length(bytes.len())?;
+    let header = read_header(bytes);
+    match header_fault(&header, kind, bytes.len()) {
+        Some(fault) => Err(fault),
+        None => Ok(header),
+    }
+}
+
+// Which kind of image the bytes say they are.
+pub fn kind_of(bytes: &[u8]) -> Result<Kind, ImageFault>
+    ensures { λ r. ⌜ r ≡ kind-read (now (bytes .entry)) ⌝ }
+{
+    check_length(bytes.len())?;
+    Kind::numbered(read_u32(bytes, 0)).ok_or(ImageFault::Kind)
+}
