@@ -6,3 +6,5 @@ pub mod mean;
 pub mod monoid;
 pub mod pick;
 pub mod single;
+#[cfg(test)]
+mod tests;

@@ -5,7 +5,7 @@ use mathlib.Core.Bool.{Bool, true, false}
 use Prim.Native.Nat.{ℕ, zero, suc, _+_, _-_, _<_}
 use native.Mathlib.Numerals.{add-one}
 use native.Mathlib.Omega.{arith}
-use Rattle.std.specs.Options.{whenTrue}
+use Rattle.std.specs.Options.{whenTrue, mapped}
 use Rattle.std.specs.declared.option.Option.{Option}
 use Rattle.std.specs.declared.option.Option.the-variants.{Some, None}
 use Rattle.std.specs.declared.result.Result.{Result}
@@ -18,6 +18,10 @@ module _ {F : Type 0} where
   when-none false f e = refl
   when-none true f e = let z : _≡_ {A = ℕ} 0 1 = cc in absurd (omega arith)
 
+  pub mapped-none : {G : Type 0} (f : F → G) (o : Option F) → mapped f o ≡ None → o ≡ None
+  mapped-none f None e = refl
+  mapped-none f (Some x) e = let z : _≡_ {A = ℕ} 0 1 = cc in absurd (omega arith)
+
   pub or-none : (a b : Option F) → a or b ≡ None → (a ≡ None) × (b ≡ None)
   or-none None b e = (refl, e)
   or-none (Some f) b e = let z : _≡_ {A = ℕ} 0 1 = cc in absurd (omega arith)
@@ -25,13 +29,17 @@ module _ {F : Type 0} where
   pub or-second : (a b : Option F) → a ≡ None → a or b ≡ b
   or-second a b e = ap (λ o. o or b) e
 
-  or-first : (a b : Option F) (f : F) → a ≡ Some f → a or b ≡ Some f
+  pub or-first : (a b : Option F) (f : F) → a ≡ Some f → a or b ≡ Some f
   or-first a b f e = ap (λ o. o or b) e
 
   module _ {X : Type 0} where
     pub unless-ok : (o : Option F) (x y : X) → unless o x ≡ Ok y → o ≡ None
     unless-ok None x y e = refl
     unless-ok (Some f) x y e = let z : _≡_ {A = ℕ} 0 1 = cc in absurd (omega arith)
+
+    pub unless-value : (o : Option F) (x y : X) → unless o x ≡ Ok y → y ≡ x
+    unless-value None x y e = cc
+    unless-value (Some f) x y e = let z : _≡_ {A = ℕ} 0 1 = cc in absurd (omega arith)
 
     pub unless-err : (o : Option F) (x : X) (f : F) → unless o x ≡ Err f → o ≡ Some f
     unless-err None x f e = let z : _≡_ {A = ℕ} 0 1 = cc in absurd (omega arith)

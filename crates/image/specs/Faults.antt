@@ -38,7 +38,6 @@ byte-of-fault (Element bad) = bad .byte
 
 -- the first of two faults that is there
 infixl 20 _or_
-
 abbrev pub _or_ : {F : Type 0} → Option F → Option F → Option F
 _or_ = orOther
 

@@ -56,3 +56,15 @@ front-fault kind s = length-fault (length s) or header-fault kind (length s) (he
 -- which kind the bytes say they are
 abbrev pub kind-read : List ℕ → Result Kind ImageFault
 kind-read s = andOther (unless {X = Unit {0}} (length-fault (length s)) tt) (okOr (kind-numbered (header-in s .kind)) KindFault)
+
+-- what a header without a fault keeps to
+pub record Sound (kind len : ℕ) (h : Header) : Type 0 where
+  pub of-kind : h .kind ≡ kind
+  pub some-rows : 1 ≤ h .span
+  pub few-rows : h .span ≤ 3000
+  pub held-within : h .held ≤ h .span
+  pub head-next : h .held < h .span → h .head ≡ h .held
+  pub head-round : h .held ≡ h .span → h .head < h .span
+  pub rows-after : h .offset ≡ 24
+  pub whole : h .total ≡ 24 + 20 * h .span
+  pub long : len ≡ h .total

@@ -56,45 +56,73 @@ fn check_length(len: usize) -> Result<(), ImageFault>
 fn kind_fault(header: &Header, kind: Kind) -> Option<ImageFault>
     ensures { λ r. ⌜ r ≡ kind-fault (number-of-kind kind) (now (header .entry)) ⌝ }
 {
-    if header.kind != kind.number() { Some(ImageFault::Kind) } else { None }
+    if header.kind != kind.number() {
+        Some(ImageFault::Kind)
+    } else {
+        None
+    }
 }
 
 fn span_fault(header: &Header) -> Option<ImageFault>
     ensures { λ r. ⌜ r ≡ span-fault (now (header .entry)) ⌝ }
 {
-    if header.span < 1 || header.span > MOST_ROWS { Some(ImageFault::Span) } else { None }
+    if header.span < 1 || header.span > MOST_ROWS {
+        Some(ImageFault::Span)
+    } else {
+        None
+    }
 }
 
 fn held_fault(header: &Header) -> Option<ImageFault>
     ensures { λ r. ⌜ r ≡ held-fault (now (header .entry)) ⌝ }
 {
-    if header.held > header.span { Some(ImageFault::Held) } else { None }
+    if header.held > header.span {
+        Some(ImageFault::Held)
+    } else {
+        None
+    }
 }
 
 // Until the ring is full, the next place is the one after the rows held; then it goes round.
 fn head_kept(header: &Header) -> bool
     ensures { λ r. ⌜ r ≡ head-kept (now (header .entry)) ⌝ }
 {
-    if header.held < header.span { header.head == header.held } else { header.head < header.span }
+    if header.held < header.span {
+        header.head == header.held
+    } else {
+        header.head < header.span
+    }
 }
 
 fn head_fault(header: &Header) -> Option<ImageFault>
     ensures { λ r. ⌜ r ≡ head-fault (now (header .entry)) ⌝ }
 {
-    if head_kept(header) { None } else { Some(ImageFault::Head) }
+    if head_kept(header) {
+        None
+    } else {
+        Some(ImageFault::Head)
+    }
 }
 
 fn offset_fault(header: &Header) -> Option<ImageFault>
     ensures { λ r. ⌜ r ≡ offset-fault (now (header .entry)) ⌝ }
 {
-    if header.offset != 24 { Some(ImageFault::Offset) } else { None }
+    if header.offset != 24 {
+        Some(ImageFault::Offset)
+    } else {
+        None
+    }
 }
 
 fn total_fault(header: &Header, len: usize) -> Option<ImageFault>
     ensures { λ r. ⌜ r ≡ total-fault len (now (header .entry)) ⌝ }
 {
     let total = header.total as usize;
-    if total != HEADER + ROW * header.span as usize || total != len { Some(ImageFault::Total) } else { None }
+    if total != HEADER + ROW * header.span as usize || total != len {
+        Some(ImageFault::Total)
+    } else {
+        None
+    }
 }
 
 // The first that applies.

@@ -4,4 +4,5 @@ pub mod fault;
 pub mod header;
 pub mod kind;
 mod number;
+pub mod opened;
 pub mod row;
