@@ -30,10 +30,10 @@ module _ (h : Header) where
   abbrev all : List ℕ
   all = counting 0 (h .held)
 
-  length-places : length (places h) ≡ h .held
+  pub length-places : length (places h) ≡ h .held
   length-places = simp (length-append, length-drop, length-take, length-counting) (omega arith)
 
-  getD-places : (i : ℕ) → h .head ≤ h .held → i < h .held → getD (places h) i 0 ≡ place-of (h .head) (h .held) i
+  pub getD-places : (i : ℕ) → h .head ≤ h .held → i < h .held → getD (places h) i 0 ≡ place-of (h .head) (h .held) i
   getD-places i within held =
       let front : length (drop (h .head) all) ≡ h .held - h .head = length-drop (h .head) all ∙ ap (λ n. n - h .head) (length-counting 0 (h .held)) in
       ⊎-elim

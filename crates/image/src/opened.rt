@@ -7,7 +7,7 @@ ghost use Rattle.image.specs.Faults.{unless};
 ghost use Rattle.image.specs.Headers.{header-in};
 ghost use Rattle.image.specs.Images.{bad-element, image-fault, place-of, rows-in, nth};
 ghost use Rattle.image.specs.Kinds.{number-of-kind};
-ghost use Rattle.image.specs.Opened.{Opened, Opens};
+ghost use Rattle.image.specs.Opened.{Opened, Opens, bytes-of};
 ghost use Rattle.image.specs.Rows.{row-start};
 use crate::element::Coded;
 use crate::fault::BadElement;
@@ -84,21 +84,21 @@ impl<'a, E: Coded + Copy> Image<'a, E> {
 
     // How many rows there is room for.
     pub fn span(&self) -> u32
-        ensures { λ r. ⌜ (Opened (number-of-kind (E·Coded .kind)) (E·Coded .fault) (now (self .entry)) → r ≡ header-in (now (now (self .entry) .bytes)) .span) ⌝ }
+        ensures { λ r. ⌜ (Opened (number-of-kind (E·Coded .kind)) (E·Coded .fault) (now (self .entry)) → r ≡ header-in (bytes-of (now (self .entry))) .span) ⌝ }
     {
         self.header.span
     }
 
     // How many rows are held.
     pub fn held(&self) -> u32
-        ensures { λ r. ⌜ (Opened (number-of-kind (E·Coded .kind)) (E·Coded .fault) (now (self .entry)) → r ≡ length (rows-in (E·Coded .decoded) (now (now (self .entry) .bytes)))) ⌝ }
+        ensures { λ r. ⌜ (Opened (number-of-kind (E·Coded .kind)) (E·Coded .fault) (now (self .entry)) → r ≡ length (rows-in (E·Coded .decoded) (bytes-of (now (self .entry))))) ⌝ }
     {
         self.header.held
     }
 
     // The row of an index, the oldest being the first; none past the newest.
     pub fn row(&self, index: u32) -> Option<Item<E>>
-        ensures { λ r. ⌜ (Opened (number-of-kind (E·Coded .kind)) (E·Coded .fault) (now (self .entry)) → r ≡ nth (rows-in (E·Coded .decoded) (now (now (self .entry) .bytes))) index) ⌝ }
+        ensures { λ r. ⌜ (Opened (number-of-kind (E·Coded .kind)) (E·Coded .fault) (now (self .entry)) → r ≡ nth (rows-in (E·Coded .decoded) (bytes-of (now (self .entry)))) index) ⌝ }
     {
         let head = self.header.head;
         let held = self.header.held;

@@ -1,15 +1,15 @@
-// Prints what an image on standard input holds.
+// Prints what an image on standard input holds, or what is wrong with it.
+use image::header::MOST_BYTES;
 use std::io;
 use std::io::Read;
-
-// One byte more than an image can have, so that a longer input is seen to be too long.
-const MOST: u64 = 60_025;
+use std::io::Write;
 
 fn main(rt: LibcRuntime) -> io::Result<()> {
     let mut image = Vec::new(rt.alloc());
-    rt.stdin().take(MOST).read_to_end(&mut image)?;
-    if image.len() < 24 || image.len() > 60_024 {
-        println!(rt, "refused 14 0")?;
-    }
-    Ok(())
+    // One byte more than an image can have, so that a longer input is seen to be too long.
+    rt.stdin()
+        .take(MOST_BYTES as u64 + 1)
+        .read_to_end(&mut image)?;
+    let text = listing::list(rt.alloc(), image.as_slice())?;
+    rt.stdout().write_all(text.as_slice())
 }
