@@ -75,9 +75,9 @@ impl ImageFault {
 }
 
 pub impl From<BadElement> for ImageFault as ImageFaultFromBadElement {
-    ghost converts = { λ bad r. r ≡ Element bad };
+    ghost converts = { λ element r. r ≡ Element element };
 
-    fn from(bad: BadElement) -> ImageFault {
-        ImageFault::Element(bad)
+    fn from(element: BadElement) -> ImageFault {
+        ImageFault::Element(element)
     }
 }
