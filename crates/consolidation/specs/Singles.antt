@@ -14,6 +14,13 @@ either pick None y = y
 either pick (Some a) None = Some a
 either pick (Some a) (Some b) = Some (pick a b)
 
+abbrev pub single-joined : {P : Type 0} → (ℤ → ℤ → ℤ) → Single P → Single P → Single P
+single-joined pick x y = single (either pick (x .reading) (y .reading))
+
+-- the later of two readings
+abbrev pub later-of : ℤ → ℤ → ℤ
+later-of earlier later = later
+
 -- a reading over some seconds: none where there is no second
 abbrev pub reading-over : ℤ → ℕ → Option ℤ
 reading-over v zero = None

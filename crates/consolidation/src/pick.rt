@@ -2,6 +2,7 @@
 ghost use mathlib.Core.Path.{_≡_};
 ghost use lib.IntN.{ℤ};
 ghost use Rattle.std.specs.Numbers.{minZ, maxZ};
+ghost use Rattle.consolidation.specs.Singles.{later-of};
 
 pub trait Pick {
     ghost picked: { ℤ → ℤ → ℤ };
@@ -40,7 +41,7 @@ pub impl Pick for Greatest as GreatestPick {
 pub struct Latest;
 
 pub impl Pick for Latest as LatestPick {
-    ghost picked = { λ _ later. later };
+    ghost picked = { later-of };
 
     fn pick(_earlier: i32, later: i32) -> i32 {
         later

@@ -1,7 +1,7 @@
 // The consolidations that keep one reading: the least, the greatest or the last.
 ghost use mathlib.Core.Path.{_≡_};
 ghost use Rattle.std.specs.declared.option.Option.the-variants.{None};
-ghost use Rattle.consolidation.specs.Singles.{single, either, reading-over, amount-of, weight-of};
+ghost use Rattle.consolidation.specs.Singles.{single, single-joined, reading-over, amount-of, weight-of};
 use crate::consolidation::Consolidation;
 use crate::monoid::Monoid;
 use crate::pick::Greatest;
@@ -35,7 +35,7 @@ fn of<P>(reading: Option<i32>) -> Single<P>
 pub impl<P: Pick> Monoid for Single<P> as SingleMonoid {
     ghost empty = { single None };
 
-    ghost joined = { λ x y. single (either picked (x .reading) (y .reading)) };
+    ghost joined = { single-joined picked };
 
     fn empty() -> Single<P> {
         of(None)
