@@ -53,88 +53,66 @@ fn check_length(len: usize) -> Result<(), ImageFault>
     Ok(())
 }
 
-fn kind_fault(header: &Header, kind: Kind) -> Option<ImageFault>
-    ensures { λ r. ⌜ r ≡ kind-fault (number-of-kind kind) (now (header .entry)) ⌝ }
-{
-    if header.kind != kind.number() {
-        Some(ImageFault::Kind)
-    } else {
-        None
+impl Header {
+    fn kind_fault(&self, kind: Kind) -> Option<ImageFault>
+        ensures { λ r. ⌜ r ≡ kind-fault (number-of-kind kind) (now (self .entry)) ⌝ }
+    {
+        (self.kind != kind.number()).then_some(ImageFault::Kind)
     }
-}
 
-fn span_fault(header: &Header) -> Option<ImageFault>
-    ensures { λ r. ⌜ r ≡ span-fault (now (header .entry)) ⌝ }
-{
-    if header.span < 1 || header.span > MOST_ROWS {
-        Some(ImageFault::Span)
-    } else {
-        None
+    fn span_fault(&self) -> Option<ImageFault>
+        ensures { λ r. ⌜ r ≡ span-fault (now (self .entry)) ⌝ }
+    {
+        (self.span < 1 || self.span > MOST_ROWS).then_some(ImageFault::Span)
     }
-}
 
-fn held_fault(header: &Header) -> Option<ImageFault>
-    ensures { λ r. ⌜ r ≡ held-fault (now (header .entry)) ⌝ }
-{
-    if header.held > header.span {
-        Some(ImageFault::Held)
-    } else {
-        None
+    fn held_fault(&self) -> Option<ImageFault>
+        ensures { λ r. ⌜ r ≡ held-fault (now (self .entry)) ⌝ }
+    {
+        (self.held > self.span).then_some(ImageFault::Held)
     }
-}
 
-// Until the ring is full, the next place is the one after the rows held; then it goes round.
-fn head_kept(header: &Header) -> bool
-    ensures { λ r. ⌜ r ≡ head-kept (now (header .entry)) ⌝ }
-{
-    if header.held < header.span {
-        header.head == header.held
-    } else {
-        header.head < header.span
+    // Until the ring is full, the next place is the one after the rows held; then it goes round.
+    fn head_kept(&self) -> bool
+        ensures { λ r. ⌜ r ≡ head-kept (now (self .entry)) ⌝ }
+    {
+        if self.held < self.span {
+            self.head == self.held
+        } else {
+            self.head < self.span
+        }
     }
-}
 
-fn head_fault(header: &Header) -> Option<ImageFault>
-    ensures { λ r. ⌜ r ≡ head-fault (now (header .entry)) ⌝ }
-{
-    if head_kept(header) {
-        None
-    } else {
-        Some(ImageFault::Head)
+    fn head_fault(&self) -> Option<ImageFault>
+        ensures { λ r. ⌜ r ≡ head-fault (now (self .entry)) ⌝ }
+    {
+        (!self.head_kept()).then_some(ImageFault::Head)
     }
-}
 
-fn offset_fault(header: &Header) -> Option<ImageFault>
-    ensures { λ r. ⌜ r ≡ offset-fault (now (header .entry)) ⌝ }
-{
-    if header.offset != 24 {
-        Some(ImageFault::Offset)
-    } else {
-        None
+    fn offset_fault(&self) -> Option<ImageFault>
+        ensures { λ r. ⌜ r ≡ offset-fault (now (self .entry)) ⌝ }
+    {
+        (self.offset as usize != HEADER).then_some(ImageFault::Offset)
     }
-}
 
-fn total_fault(header: &Header, len: usize) -> Option<ImageFault>
-    ensures { λ r. ⌜ r ≡ total-fault len (now (header .entry)) ⌝ }
-{
-    let total = header.total as usize;
-    if total != HEADER + ROW * header.span as usize || total != len {
-        Some(ImageFault::Total)
-    } else {
-        None
+    fn total_fault(&self, len: usize) -> Option<ImageFault>
+        ensures { λ r. ⌜ r ≡ total-fault len (now (self .entry)) ⌝ }
+    {
+        let total = self.total as usize;
+        (total != HEADER + ROW * self.span as usize || total != len).then_some(ImageFault::Total)
     }
-}
 
-// The first that applies.
-fn header_fault(header: &Header, kind: Kind, len: usize) -> Option<ImageFault>
-    ensures { λ r. ⌜ r ≡ header-fault (number-of-kind kind) len (now (header .entry)) ⌝ }
-{
-    kind_fault(header, kind)
-        .or(span_fault(header))
-        .or(held_fault(header))
-        .or(head_fault(header))
-        .or(offset_fault(header))
-        .or(total_fault(header, len))
+    // The first that applies.
+    fn fault(&self, kind: Kind, len: usize) -> Option<ImageFault>
+        ensures { λ r. ⌜ r ≡ header-fault (number-of-kind kind) len (now (self .entry)) ⌝ }
+    {
+        self.kind_fault(kind)
+            .or(self.span_fault())
+            .or(self.held_fault())
+            .or(self.head_fault())
+            .or(self.offset_fault())
+            .or(self.total_fault(len))
+    }
 }
 
 // The header of an image of this kind, or the first fault of its length and its header.
@@ -143,7 +121,7 @@ pub(crate) fn open_header(bytes: &[u8], kind: Kind) -> Result<Header, ImageFault
 {
     check_length(bytes.len())?;
     let header = read_header(bytes);
-    match header_fault(&header, kind, bytes.len()) {
+    match header.fault(kind, bytes.len()) {
         Some(fault) => Err(fault),
         None => Ok(header),
     }
