@@ -11,7 +11,8 @@ use Rattle.std.specs.declared.option.Option.the-variants.{Some, None}
 use Rattle.std.specs.declared.result.Result.{Result}
 use Rattle.std.specs.declared.result.Result.the-variants.{Ok, Err}
 use Rattle.std.proofs.shelf.Tests.{cases-eq}
-use Rattle.image.specs.Faults.{_or_, earliest, unless}
+use Rattle.element.specs.Faults.{_or_, unless}
+use Rattle.image.specs.Faults.{earliest}
 
 module _ {F : Type 0} where
   pub when-none : (b : Bool) (f : F) → whenTrue b f ≡ None → b ≡ false

@@ -10,11 +10,12 @@ use Rattle.std.specs.declared.option.Option.{Option}
 use Rattle.std.specs.declared.option.Option.the-variants.{Some, None}
 use Rattle.std.specs.declared.result.Result.the-variants.{Ok, Err}
 use Rattle.image.specs.declared.fault.BadElement.{BadElement}
-use Rattle.image.specs.declared.fault.ElementFault.{ElementFault}
+use Rattle.element.specs.declared.fault.ElementFault.{ElementFault}
 use Rattle.image.specs.declared.fault.ImageFault.{ImageFault}
 use Rattle.image.specs.declared.fault.ImageFault.the-variants.{Element}
 use Rattle.image.specs.declared.header.Header.{Header}
-use Rattle.image.specs.Faults.{earliest, unless}
+use Rattle.element.specs.Faults.{unless}
+use Rattle.image.specs.Faults.{earliest}
 use Rattle.image.specs.Headers.{header-in, front-fault, Sound}
 use Rattle.image.specs.Images.{bad-element, image-fault}
 use Rattle.image.specs.Rows.{row-start}

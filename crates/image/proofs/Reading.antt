@@ -12,9 +12,10 @@ use Rattle.std.specs.declared.option.Option.the-variants.{Some, None}
 use Rattle.std.proofs.shelf.Tests.{cases-lt}
 use Rattle.std.proofs.shelf.Ways.{tells}
 use Rattle.consolidation.specs.declared.item.Item.{Item}
-use Rattle.image.specs.declared.fault.ElementFault.{ElementFault}
+use Rattle.element.specs.declared.fault.ElementFault.{ElementFault}
 use Rattle.image.specs.declared.header.Header.{Header}
-use Rattle.image.specs.Faults.{earliest, unless}
+use Rattle.element.specs.Faults.{unless}
+use Rattle.image.specs.Faults.{earliest}
 use Rattle.image.specs.Headers.{header-in, front-fault, Sound}
 use Rattle.image.specs.Images.{bad-element, image-fault, place-of, places, rows-in, nth}
 use Rattle.image.specs.Rows.{amount-at, weight-at, known-at, of-at, fault-at, item-at}

@@ -15,7 +15,7 @@ use Rattle.consolidation.specs.Items.{item}
 use Rattle.consolidation.specs.declared.item.Item.{Item}
 use Rattle.bytes.specs.Placed.{placed}
 use Rattle.bytes.proofs.Placing.{placed-more}
-use Rattle.image.specs.declared.fault.ElementFault.{ElementFault}
+use Rattle.element.specs.declared.fault.ElementFault.{ElementFault}
 use Rattle.image.specs.Numbers.{le32, le64, bytes32, bytes64}
 use Rattle.image.specs.Rows.{row-start, amount-at, weight-at, known-at, of-at, fault-at, item-at, row-bytes, RowWritten}
 use Rattle.image.proofs.Numbers.{le32-placed, bytes32-write}

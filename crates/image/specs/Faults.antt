@@ -1,20 +1,10 @@
--- The numbers and the bytes of faults, and which of several answers. Assumes nothing.
+-- The numbers and the bytes of an image's faults. Assumes nothing.
 use Prim.Native.Nat.{ℕ, zero, suc}
-use Rattle.std.specs.Options.{orOther}
 use Rattle.std.specs.declared.option.Option.{Option}
-use Rattle.std.specs.declared.option.Option.the-variants.{Some, None}
-use Rattle.std.specs.declared.result.Result.{Result}
-use Rattle.std.specs.declared.result.Result.the-variants.{Ok, Err}
-use Rattle.image.specs.declared.fault.BadElement.{BadElement}
-use Rattle.image.specs.declared.fault.ElementFault.{ElementFault}
-use Rattle.image.specs.declared.fault.ElementFault.the-variants.{WeightAboveOne, AmountWithoutWeight, AmountTooWide}
+use Rattle.std.specs.declared.option.Option.the-variants.{None}
+use Rattle.element.specs.Faults.{_or_}
 use Rattle.image.specs.declared.fault.ImageFault.{ImageFault}
 use Rattle.image.specs.declared.fault.ImageFault.the-variants.{Length, Kind, Span, Held, Head, Offset, Total, Element}
-
-abbrev pub number-of-element-fault : ElementFault → ℕ
-number-of-element-fault WeightAboveOne = 1
-number-of-element-fault AmountWithoutWeight = 2
-number-of-element-fault AmountTooWide = 3
 
 abbrev pub number-of-fault : ImageFault → ℕ
 number-of-fault Length = 14
@@ -36,17 +26,7 @@ byte-of-fault Offset = 16
 byte-of-fault Total = 20
 byte-of-fault (Element bad) = bad .byte
 
--- the first of two faults that is there
-infixl 20 _or_
-abbrev pub _or_ : {F : Type 0} → Option F → Option F → Option F
-_or_ = orOther
-
 -- of the places 0 to n - 1, the fault of the earliest that has one
 abbrev pub earliest : {F : Type 0} → (ℕ → Option F) → ℕ → Option F
 earliest fault zero = None
 earliest fault (suc n) = earliest fault n or fault n
-
--- a value, unless there is a fault
-abbrev pub unless : {F X : Type 0} → Option F → X → Result X F
-unless (Some f) x = Err f
-unless None x = Ok x

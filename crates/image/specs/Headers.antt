@@ -12,9 +12,9 @@ use Rattle.std.specs.declared.result.Result.{Result}
 use Rattle.image.specs.declared.fault.ImageFault.{ImageFault}
 use Rattle.image.specs.declared.fault.ImageFault.the-variants.{Length, Kind as KindFault, Span, Held, Head, Offset, Total}
 use Rattle.image.specs.declared.header.Header.{Header}
-use Rattle.image.specs.declared.kind.Kind.{Kind}
-use Rattle.image.specs.Faults.{_or_, unless}
-use Rattle.image.specs.Kinds.{kind-numbered}
+use Rattle.element.specs.declared.kind.Kind.{Kind}
+use Rattle.element.specs.Faults.{_or_, unless}
+use Rattle.element.specs.Kinds.{kind-numbered}
 use Rattle.image.specs.Numbers.{le32}
 
 abbrev pub header-in : List ℕ → Header

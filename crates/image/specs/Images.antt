@@ -11,11 +11,12 @@ use Rattle.std.specs.declared.option.Option.{Option}
 use Rattle.std.specs.declared.option.Option.the-variants.{Some, None}
 use Rattle.consolidation.specs.declared.item.Item.{Item}
 use Rattle.image.specs.declared.fault.BadElement.{BadElement}
-use Rattle.image.specs.declared.fault.ElementFault.{ElementFault}
+use Rattle.element.specs.declared.fault.ElementFault.{ElementFault}
 use Rattle.image.specs.declared.fault.ImageFault.{ImageFault}
 use Rattle.image.specs.declared.fault.ImageFault.the-variants.{Element}
 use Rattle.image.specs.declared.header.Header.{Header}
-use Rattle.image.specs.Faults.{_or_, earliest}
+use Rattle.element.specs.Faults.{_or_}
+use Rattle.image.specs.Faults.{earliest}
 use Rattle.image.specs.Headers.{header-in, front-fault}
 use Rattle.image.specs.Rows.{row-start, fault-at, item-at}
 

@@ -12,7 +12,7 @@ use Rattle.std.specs.declared.option.Option.the-variants.{None}
 use Rattle.bytes.specs.Placed.{placed}
 use Rattle.consolidation.specs.Items.{item}
 use Rattle.consolidation.specs.declared.item.Item.{Item}
-use Rattle.image.specs.declared.fault.ElementFault.{ElementFault}
+use Rattle.element.specs.declared.fault.ElementFault.{ElementFault}
 use Rattle.image.specs.Numbers.{le32, le64, bytes32, bytes64}
 
 -- the first byte of the row at a place

@@ -1,28 +1,10 @@
 // What can be wrong with an image, and where.
 ghost use mathlib.Core.Path.{_≡_};
 ghost use Rattle.image.specs.declared.fault.ImageFault.the-variants.{Element};
-ghost use Rattle.image.specs.Faults.{number-of-element-fault, number-of-fault, byte-of-fault};
-
-// What is wrong with the amount and the weight of a row.
-#[derive(Clone, Copy, PartialEq, Eq, Debug)]
-pub enum ElementFault {
-    WeightAboveOne,
-    AmountWithoutWeight,
-    // The amount is no signed number of 32 bits.
-    AmountTooWide,
-}
-
-impl ElementFault {
-    pub fn number(self) -> u32
-        ensures { λ r. ⌜ r ≡ number-of-element-fault self ⌝ }
-    {
-        match self {
-            ElementFault::WeightAboveOne => 1,
-            ElementFault::AmountWithoutWeight => 2,
-            ElementFault::AmountTooWide => 3,
-        }
-    }
-}
+ghost use Rattle.image.specs.Faults.{number-of-fault, byte-of-fault};
+use element::fault::ElementFault;
+use element::fault::ElementFaultDebug;
+use element::fault::ElementFaultPartialEq;
 
 // An element's fault, with the place of its row and the first byte of that row.
 #[derive(Clone, Copy, PartialEq, Eq, Debug)]

@@ -2,14 +2,14 @@
 ghost use mathlib.Core.Path.{_≡_};
 ghost use Prim.Native.Nat.{_≤_};
 ghost use lib.ListN.{length};
-ghost use Rattle.image.specs.Faults.{unless};
+ghost use Rattle.element.specs.Faults.{unless};
 ghost use Rattle.image.specs.Headers.{header-in, length-fault, kind-fault, span-fault, held-fault, head-kept, head-fault, offset-fault, total-fault, header-fault, front-fault, kind-read};
-ghost use Rattle.image.specs.Kinds.{number-of-kind};
+ghost use Rattle.element.specs.Kinds.{number-of-kind};
 use crate::fault::ImageFault;
-use crate::kind::Kind;
 use crate::number::read_u32;
 use crate::row::HEADER;
 use crate::row::ROW;
+use element::kind::Kind;
 
 // The most rows that an image can have room for.
 pub const MOST_ROWS: u32 = 3_000;

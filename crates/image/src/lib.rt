@@ -1,8 +1,8 @@
 // The image of a ring of rows: its bytes, what can be wrong with them, and the rows that they hold.
-pub mod element;
 pub mod fault;
 pub mod header;
-pub mod kind;
 mod number;
 pub mod opened;
 pub mod row;
+#[cfg(test)]
+mod tests;

@@ -3,13 +3,12 @@ ghost use mathlib.Core.Path.{_≡_};
 ghost use Prim.Native.Nat.{_+_, _<_, _≤_};
 ghost use lib.ListN.{length};
 ghost use Rattle.std.specs.Results.{errPart};
-ghost use Rattle.image.specs.Faults.{unless};
+ghost use Rattle.element.specs.Faults.{unless};
 ghost use Rattle.image.specs.Headers.{header-in};
 ghost use Rattle.image.specs.Images.{bad-element, image-fault, place-of, rows-in, nth};
-ghost use Rattle.image.specs.Kinds.{number-of-kind};
+ghost use Rattle.element.specs.Kinds.{number-of-kind};
 ghost use Rattle.image.specs.Opened.{Opened, Opens, bytes-of};
 ghost use Rattle.image.specs.Rows.{row-start};
-use crate::element::Coded;
 use crate::fault::BadElement;
 use crate::fault::ImageFault;
 use crate::fault::ImageFaultFromBadElement;
@@ -19,6 +18,7 @@ use crate::row::ROW;
 use crate::row::read_row;
 use crate::row::row_start;
 use consolidation::item::Item;
+use element::coded::Coded;
 use std::marker::PhantomData;
 
 #[derive_where(Clone, Copy)]

@@ -2,15 +2,15 @@
 ghost use mathlib.Core.Path.{_≡_};
 ghost use Prim.Native.Nat.{_+_, _≤_};
 ghost use lib.ListN.{length};
-ghost use Rattle.image.specs.Faults.{unless};
+ghost use Rattle.element.specs.Faults.{unless};
 ghost use Rattle.image.specs.Rows.{row-start, fault-at, item-at, WritesRow};
-use crate::element::Coded;
-use crate::fault::ElementFault;
 use crate::number::read_u32;
 use crate::number::read_u64;
 use crate::number::write_u32;
 use crate::number::write_u64;
 use consolidation::item::Item;
+use element::coded::Coded;
+use element::fault::ElementFault;
 
 // The bytes of the header, which stands before the rows.
 pub(crate) const HEADER: usize = 24;

@@ -11,16 +11,17 @@ use Rattle.std.specs.declared.option.Option.{Option}
 use Rattle.std.specs.declared.option.Option.the-variants.{Some, None}
 use Rattle.std.specs.declared.result.Result.{Result}
 use Rattle.std.specs.declared.result.Result.the-variants.{Ok, Err}
-use Rattle.image.specs.declared.fault.ElementFault.{ElementFault}
+use Rattle.element.specs.declared.fault.ElementFault.{ElementFault}
 use Rattle.image.specs.declared.fault.ImageFault.{ImageFault}
 use Rattle.image.specs.declared.fault.ImageFault.the-variants.{Length, Kind as KindFault, Span, Held, Head, Offset, Total, Element}
-use Rattle.image.specs.declared.kind.Kind.{Kind}
-use Rattle.image.specs.declared.kind.Kind.the-variants.{Min, Max, Last, Mean}
-use Rattle.image.specs.Elements.{single-fault}
-use Rattle.image.specs.Faults.{number-of-element-fault, number-of-fault, byte-of-fault}
+use Rattle.element.specs.declared.kind.Kind.{Kind}
+use Rattle.element.specs.declared.kind.Kind.the-variants.{Min, Max, Last, Mean}
+use Rattle.element.specs.Elements.{single-fault}
+use Rattle.element.specs.Faults.{number-of-element-fault}
+use Rattle.image.specs.Faults.{number-of-fault, byte-of-fault}
 use Rattle.image.specs.Headers.{header-in, kind-read}
 use Rattle.image.specs.Images.{image-fault, places}
-use Rattle.image.specs.Kinds.{number-of-kind}
+use Rattle.element.specs.Kinds.{number-of-kind}
 use Rattle.image.specs.Rows.{amount-at, weight-at, known-at, of-at}
 use Rattle.listing.specs.Lines.{line}
 

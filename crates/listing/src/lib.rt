@@ -2,7 +2,7 @@
 ghost use mathlib.Core.Path.{_≡_};
 ghost use Rattle.std.specs.Of.Vec.{vec-items};
 ghost use Rattle.std.specs.Vec.{made};
-ghost use Rattle.image.specs.Kinds.{number-of-kind};
+ghost use Rattle.element.specs.Kinds.{number-of-kind};
 ghost use Rattle.std.specs.Results.{Cases};
 ghost use Rattle.std.specs.declared.option.Option.the-variants.{Some, None};
 ghost use Rattle.image.specs.Images.{image-fault};
@@ -19,15 +19,15 @@ use consolidation::single::Last;
 use consolidation::single::Max;
 use consolidation::single::Min;
 use consolidation::single::SingleConsolidation;
-use image::element::Coded;
-use image::element::GreatestKind;
-use image::element::LatestKind;
-use image::element::LeastKind;
-use image::element::MeanCoded;
-use image::element::SingleCoded;
+use element::coded::Coded;
+use element::coded::GreatestKind;
+use element::coded::LatestKind;
+use element::coded::LeastKind;
+use element::coded::MeanCoded;
+use element::coded::SingleCoded;
+use element::kind::Kind;
 use image::fault::ImageFault;
 use image::header::kind_of;
-use image::kind::Kind;
 use image::opened::Image;
 use rows::push_header;
 use rows::push_rows;
@@ -73,3 +73,6 @@ pub fn list(heap: Global, bytes: &[u8]) -> Result<Vec<u8>, AllocError>
         Err(Stop::Memory(error)) => Err(error),
     }
 }
+
+#[cfg(test)]
+mod tests;

@@ -1,7 +1,7 @@
 use mathlib.Core.Path.{sym, ap, _∙_}
 use lib.ListN.{length}
 use Rattle.image.specs.Headers.{header-in, length-fault, header-fault, front-fault}
-use Rattle.image.specs.Kinds.{number-of-kind}
+use Rattle.element.specs.Kinds.{number-of-kind}
 use Rattle.image.proofs.Faults.{or-second, unless-ok, unless-some}
 use Rattle.image.proofs.header.open_header.Needs as need
 

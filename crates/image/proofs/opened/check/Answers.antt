@@ -6,11 +6,11 @@ use Rattle.std.specs.declared.result.Result.the-variants.{Ok}
 use Rattle.std.proofs.shelf.Results.{err-from-errBy}
 use Rattle.image.specs.declared.fault.ImageFault.{ImageFault}
 use Rattle.image.specs.declared.header.Header.{Header}
-use Rattle.image.specs.declared.kind.Kind.{Kind}
-use Rattle.image.specs.Faults.{unless}
+use Rattle.element.specs.declared.kind.Kind.{Kind}
+use Rattle.element.specs.Faults.{unless}
 use Rattle.image.specs.Headers.{header-in, front-fault}
 use Rattle.image.specs.Images.{bad-element}
-use Rattle.image.specs.Kinds.{number-of-kind}
+use Rattle.element.specs.Kinds.{number-of-kind}
 use Rattle.image.proofs.Faults.{earliest-more}
 use Rattle.image.proofs.Images.{Accepted, accepted, row-within, refused-front, refused-row}
 use Rattle.image.proofs.opened.check.Needs as need

@@ -8,7 +8,7 @@ use borrow.Author.Needs.{needs}
 use Rattle.std.specs.Of.Vec.{vec-items}
 use Rattle.image.specs.Headers.{header-in}
 use Rattle.image.specs.Images.{places}
-use Rattle.image.specs.Kinds.{number-of-kind}
+use Rattle.element.specs.Kinds.{number-of-kind}
 use Rattle.image.specs.Opened.{bytes-of}
 use Rattle.image.specs.Rows.{item-at}
 use Rattle.image.proofs.Places.{length-rows}

@@ -11,7 +11,7 @@ use Rattle.std.proofs.shelf.Lists.{take-all}
 use Rattle.std.proofs.shelf.Results.{made-from-err}
 use Rattle.image.specs.Headers.{header-in}
 use Rattle.image.specs.Images.{places}
-use Rattle.image.specs.Kinds.{number-of-kind}
+use Rattle.element.specs.Kinds.{number-of-kind}
 use Rattle.image.specs.Opened.{bytes-of}
 use Rattle.image.specs.Rows.{item-at}
 use Rattle.image.proofs.Places.{length-places, length-rows}

@@ -5,7 +5,7 @@ use Rattle.std.specs.Joined.{joined}
 use Rattle.std.specs.Of.Vec.{vec-items}
 use Rattle.image.specs.Headers.{header-in}
 use Rattle.image.specs.Images.{places}
-use Rattle.image.specs.Kinds.{number-of-kind}
+use Rattle.element.specs.Kinds.{number-of-kind}
 use Rattle.image.specs.Opened.{Opened, bytes-of}
 use Rattle.listing.specs.Listing.{row-line}
 use Rattle.listing.proofs.rows.push_rows.Given as given

@@ -1,7 +1,7 @@
 use mathlib.Core.Path.{refl, sym}
 use Rattle.image.specs.Headers.{header-in}
 use Rattle.image.specs.Images.{image-fault}
-use Rattle.image.specs.Kinds.{number-of-kind}
+use Rattle.element.specs.Kinds.{number-of-kind}
 use Rattle.image.proofs.Faults.{unless-ok, unless-value, unless-err}
 use Rattle.image.proofs.Reading.{header-sound, row-sound}
 use Rattle.image.proofs.opened.Image.open.Needs as need

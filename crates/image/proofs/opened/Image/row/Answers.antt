@@ -6,7 +6,7 @@ use Prim.Native.Nat.{_<_, _≤_}
 use Rattle.std.specs.Results.{okPart}
 use Rattle.image.specs.Headers.{header-in}
 use Rattle.image.specs.Images.{place-of}
-use Rattle.image.specs.Kinds.{number-of-kind}
+use Rattle.element.specs.Kinds.{number-of-kind}
 use Rattle.image.specs.Rows.{item-at}
 use Rattle.image.proofs.Reading.{head-within, header-sound, row-read}
 use Rattle.image.proofs.Places.{nth-past, length-rows}

@@ -6,9 +6,9 @@ use lib.IntN.{ℤ, natAbs}
 use lib.Signed.{mag}
 use Rattle.std.specs.Options.{whenTrue}
 use Rattle.std.specs.declared.option.Option.{Option}
-use Rattle.image.specs.declared.fault.ElementFault.{ElementFault}
-use Rattle.image.specs.declared.fault.ElementFault.the-variants.{WeightAboveOne, AmountWithoutWeight, AmountTooWide}
-use Rattle.image.specs.Faults.{_or_}
+use Rattle.element.specs.declared.fault.ElementFault.{ElementFault}
+use Rattle.element.specs.declared.fault.ElementFault.the-variants.{WeightAboveOne, AmountWithoutWeight, AmountTooWide}
+use Rattle.element.specs.Faults.{_or_}
 
 -- one reading or none: the lowest fault that applies
 abbrev pub single-fault : ℤ → ℕ → Option ElementFault

@@ -4,8 +4,8 @@ use Prim.Native.Nat.{ℕ}
 use lib.Dec.{eqb}
 use Rattle.std.specs.declared.option.Option.{Option}
 use Rattle.std.specs.declared.option.Option.the-variants.{Some, None}
-use Rattle.image.specs.declared.kind.Kind.{Kind}
-use Rattle.image.specs.declared.kind.Kind.the-variants.{Min, Max, Last, Mean}
+use Rattle.element.specs.declared.kind.Kind.{Kind}
+use Rattle.element.specs.declared.kind.Kind.the-variants.{Min, Max, Last, Mean}
 
 abbrev pub number-of-kind : Kind → ℕ
 number-of-kind Min = 1

@@ -1,6 +1,6 @@
 // The consolidations that an image can be of.
 ghost use mathlib.Core.Path.{_≡_};
-ghost use Rattle.image.specs.Kinds.{number-of-kind, kind-numbered};
+ghost use Rattle.element.specs.Kinds.{number-of-kind, kind-numbered};
 
 #[derive(Clone, Copy, PartialEq, Eq, Debug)]
 pub enum Kind {
