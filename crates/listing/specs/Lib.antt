@@ -1,3 +1,4 @@
 pub mod Lines
 pub mod Listing
-pub mod Stops
+pub mod Shows
+pub mod Texts

@@ -1,13 +1,9 @@
 // What the program `rows` prints of an image.
-ghost use mathlib.Core.Path.{_≡_};
-ghost use Rattle.std.specs.Of.Vec.{vec-items};
-ghost use Rattle.std.specs.Vec.{made};
 ghost use Rattle.element.specs.Kinds.{number-of-kind};
-ghost use Rattle.std.specs.Results.{Cases};
-ghost use Rattle.std.specs.declared.option.Option.the-variants.{Some, None};
 ghost use Rattle.image.specs.Images.{image-fault};
-ghost use Rattle.listing.specs.Listing.{shown, listing, refusal};
-ghost use Rattle.listing.specs.Stops.{AtFault};
+ghost use Rattle.listing.specs.Listing.{listing};
+ghost use Rattle.listing.specs.Shows.{Shows, ShowsAny};
+ghost use Rattle.listing.specs.Texts.{Puts};
 
 mod rows;
 mod stop;
@@ -26,51 +22,48 @@ use element::coded::LeastKind;
 use element::coded::MeanCoded;
 use element::coded::SingleCoded;
 use element::kind::Kind;
-use image::fault::ImageFault;
 use image::header::kind_of;
 use image::opened::Image;
-use rows::push_header;
-use rows::push_rows;
-use rows::refuse;
-use std::alloc::AllocError;
-use std::alloc::Global;
+use rows::put_header;
+use rows::put_refusal;
+use rows::put_rows;
 use stop::Stop;
-use stop::StopFromAllocError;
 use stop::StopFromImageFault;
 
+// Room for the listing of any image: a line of at most 18 bytes, and one of at most 54 for each of 3,000 rows.
+pub const MOST_TEXT: usize = 162_018;
+
 // The text of an image of one kind.
-fn show<E: Coded + Copy>(heap: Global, bytes: &[u8]) -> Result<Vec<u8>, Stop>
-    ensures { λ r. ⌜ Cases r
-        (λ text. (image-fault (number-of-kind (E·Coded .kind)) (E·Coded .fault) (now (bytes .entry)) ≡ None) × (vec-items text ≡ shown (now (bytes .entry))))
-        (AtFault (λ f. image-fault (number-of-kind (E·Coded .kind)) (E·Coded .fault) (now (bytes .entry)) ≡ Some f)) ⌝ }
+fn show<E: Coded + Copy>(bytes: &[u8], out: &mut [u8]) -> Result<usize, Stop>
+    ensures { λ r. ⌜ Shows (image-fault (number-of-kind (E·Coded .kind)) (E·Coded .fault) (now (bytes .entry))) (now (bytes .entry)) (now (out .entry)) r (now (out .exit)) ⌝ }
 {
     let image = Image::<E>::open(bytes)?;
-    let mut text = Vec::new(heap);
-    push_header(&mut text, &image)?;
-    push_rows(&mut text, &image)?;
-    Ok(text)
-}
-
-// The same of the kind that the image says it is of.
-fn show_any(heap: Global, bytes: &[u8]) -> Result<Vec<u8>, Stop>
-    ensures { λ r. ⌜ Cases r (λ text. vec-items text ≡ listing (now (bytes .entry))) (AtFault (λ f. listing (now (bytes .entry)) ≡ refusal f)) ⌝ }
-{
-    match kind_of(bytes)? {
-        Kind::Min => show::<Min>(heap, bytes),
-        Kind::Max => show::<Max>(heap, bytes),
-        Kind::Last => show::<Last>(heap, bytes),
-        Kind::Mean => show::<Mean>(heap, bytes),
+    match put_header(out, &image) {
+        Some(at) => put_rows(out, at, &image).ok_or(Stop::Full),
+        None => Err(Stop::Full),
     }
 }
 
-// The listing of an image, whose bytes may be anything: its rows, or the first fault. It fails only for want of memory.
-pub fn list(heap: Global, bytes: &[u8]) -> Result<Vec<u8>, AllocError>
-    ensures { λ r. ⌜ made r (λ text. vec-items text ≡ listing (now (bytes .entry))) ⌝ }
+// The same of the kind that the image says it is of.
+fn show_any(bytes: &[u8], out: &mut [u8]) -> Result<usize, Stop>
+    ensures { λ r. ⌜ ShowsAny (now (bytes .entry)) (now (out .entry)) r (now (out .exit)) ⌝ }
 {
-    match show_any(heap, bytes) {
-        Ok(text) => Ok(text),
-        Err(Stop::Fault(fault)) => refuse(heap, fault),
-        Err(Stop::Memory(error)) => Err(error),
+    match kind_of(bytes)? {
+        Kind::Min => show::<Min>(bytes, out),
+        Kind::Max => show::<Max>(bytes, out),
+        Kind::Last => show::<Last>(bytes, out),
+        Kind::Mean => show::<Mean>(bytes, out),
+    }
+}
+
+// Puts the listing of an image at the start of `out`, and answers where it ends; or it does not fit. The bytes may be anything: a fault is listed too.
+pub fn list(bytes: &[u8], out: &mut [u8]) -> Option<usize>
+    ensures { λ r. ⌜ Puts (now (out .entry)) 0 (listing (now (bytes .entry))) r (now (out .exit)) ⌝ }
+{
+    match show_any(bytes, out) {
+        Ok(end) => Some(end),
+        Err(Stop::Fault(fault)) => put_refusal(out, fault),
+        Err(Stop::Full) => None,
     }
 }
 

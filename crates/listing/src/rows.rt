@@ -1,87 +1,83 @@
 // The lines of a listing.
-ghost use mathlib.Core.Path.{_≡_};
-ghost use mathlib.Core.List.{[], _∷_, _++_};
+ghost use mathlib.Core.List.{[], _∷_};
+ghost use Prim.Native.Nat.{_≤_};
 ghost use lib.IntN.{pos};
+ghost use lib.ListN.{length};
 ghost use Rattle.std.specs.Joined.{joined};
-ghost use Rattle.std.specs.Of.Vec.{vec-items};
-ghost use Rattle.std.specs.Vec.{made};
 ghost use Rattle.std.specs.Written.{signed};
+ghost use Rattle.element.specs.Kinds.{number-of-kind};
 ghost use Rattle.image.specs.Headers.{header-in};
 ghost use Rattle.image.specs.Images.{places};
-ghost use Rattle.element.specs.Kinds.{number-of-kind};
 ghost use Rattle.image.specs.Opened.{Opened, bytes-of};
 ghost use Rattle.listing.specs.Lines.{line};
 ghost use Rattle.listing.specs.Listing.{header-line, row-line, refusal};
-use crate::text::push_ending;
-use crate::text::push_number;
+ghost use Rattle.listing.specs.Texts.{Puts};
+use crate::text::put_ending;
+use bytes::put;
 use consolidation::consolidation::Consolidation;
 use consolidation::item::Item;
 use element::coded::Coded;
 use image::fault::ImageFault;
 use image::opened::Image;
-use std::alloc::AllocError;
-use std::alloc::Global;
 
 // `image`, the kind, how many rows there is room for, and how many are held.
-pub(crate) fn push_header<E: Coded + Copy>(
-    text: &mut Vec<u8>,
-    image: &Image<E>,
-) -> Result<(), AllocError>
-    ensures { λ r. ⌜ (Opened (number-of-kind (E·Coded .kind)) (E·Coded .fault) (now (image .entry)) → made r (λ _. vec-items (now (text .exit)) ≡ vec-items (now (text .entry)) ++ header-line (bytes-of (now (image .entry))))) ⌝ }
+pub(crate) fn put_header<E: Coded + Copy>(out: &mut [u8], image: &Image<E>) -> Option<usize>
+    ensures { λ r. ⌜ (Opened (number-of-kind (E·Coded .kind)) (E·Coded .fault) (now (image .entry)) → Puts (now (out .entry)) 0 (header-line (bytes-of (now (image .entry)))) r (now (out .exit))) ⌝ }
 {
-    text.extend_from_slice(b"image")?;
-    push_ending(
-        text,
+    let at = put(out, 0, b"image")?;
+    put_ending(
+        out,
+        at,
         &[
             E::kind().number() as i64,
             image.span() as i64,
             image.held() as i64,
         ],
-    )?;
-    Ok(())
+    )
 }
 
-fn push_row<E: Consolidation + Copy>(text: &mut Vec<u8>, row: Item<E>) -> Result<(), AllocError>
-    ensures { λ r. ⌜ made r (λ _. vec-items (now (text .exit)) ≡ vec-items (now (text .entry)) ++ line (signed (E·Consolidation .amount (row .element))) (pos (E·Consolidation .weight (row .element)) ∷ pos (row .known) ∷ pos (row .of) ∷ [])) ⌝ }
+fn put_row<E: Consolidation + Copy>(out: &mut [u8], at: usize, row: Item<E>) -> Option<usize>
+    ensures { λ r. ⌜ Puts (now (out .entry)) at (line (signed (E·Consolidation .amount (row .element))) (pos (E·Consolidation .weight (row .element)) ∷ pos (row .known) ∷ pos (row .of) ∷ [])) r (now (out .exit)) ⌝ }
 {
-    push_number(text, row.element.amount())?;
-    push_ending(
-        text,
+    let at = decimal::write(out, at, row.element.amount())?;
+    put_ending(
+        out,
+        at,
         &[row.element.weight() as i64, row.known as i64, row.of as i64],
-    )?;
-    Ok(())
+    )
 }
 
 // A line for each row, the oldest first.
-pub(crate) fn push_rows<E: Coded + Copy>(
-    text: &mut Vec<u8>,
+pub(crate) fn put_rows<E: Coded + Copy>(
+    out: &mut [u8],
+    at: usize,
     image: &Image<E>,
-) -> Result<(), AllocError>
-    ensures { λ r. ⌜ (Opened (number-of-kind (E·Coded .kind)) (E·Coded .fault) (now (image .entry)) → made r (λ _. vec-items (now (text .exit)) ≡ vec-items (now (text .entry)) ++ joined (row-line (bytes-of (now (image .entry)))) (places (header-in (bytes-of (now (image .entry))))))) ⌝ }
+) -> Option<usize>
+    requires { ⌜ at ≤ length (now out) ⌝ }
+    ensures { λ r. ⌜ (Opened (number-of-kind (E·Coded .kind)) (E·Coded .fault) (now (image .entry)) → Puts (now (out .entry)) at (joined (row-line (bytes-of (now (image .entry)))) (places (header-in (bytes-of (now (image .entry)))))) r (now (out .exit))) ⌝ }
 {
+    let mut end = at;
     for index in 0..image.held() {
         if let Some(row) = image.row(index) {
-            push_row(text, row)?;
+            end = put_row(out, end, row)?;
         }
     }
-    Ok(())
+    Some(end)
 }
 
 // `refused`, the fault's number and byte, and of an element its place and what is wrong with it.
-pub(crate) fn refuse(heap: Global, fault: ImageFault) -> Result<Vec<u8>, AllocError>
-    ensures { λ r. ⌜ made r (λ text. vec-items text ≡ refusal fault) ⌝ }
+pub(crate) fn put_refusal(out: &mut [u8], fault: ImageFault) -> Option<usize>
+    ensures { λ r. ⌜ Puts (now (out .entry)) 0 (refusal fault) r (now (out .exit)) ⌝ }
 {
-    let mut text = Vec::new(heap);
-    text.extend_from_slice(b"refused")?;
+    let at = put(out, 0, b"refused")?;
     let number = fault.number() as i64;
     let byte = fault.byte() as i64;
-    if let ImageFault::Element(bad) = fault {
-        push_ending(
-            &mut text,
+    match fault {
+        ImageFault::Element(bad) => put_ending(
+            out,
+            at,
             &[number, byte, bad.place as i64, bad.fault.number() as i64],
-        )?;
-    } else {
-        push_ending(&mut text, &[number, byte])?;
+        ),
+        _ => put_ending(out, at, &[number, byte]),
     }
-    Ok(text)
 }

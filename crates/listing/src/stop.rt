@@ -1,13 +1,13 @@
 // Why a listing stops.
 ghost use mathlib.Core.Path.{_≡_};
-ghost use Rattle.listing.specs.declared.stop.Stop.the-variants.{Fault, Memory};
+ghost use Rattle.listing.specs.declared.stop.Stop.the-variants.{Fault};
 use image::fault::ImageFault;
-use std::alloc::AllocError;
 
-#[derive(Drop)]
+#[derive(Clone, Copy)]
 pub(crate) enum Stop {
     Fault(ImageFault),
-    Memory(AllocError),
+    // The text does not fit.
+    Full,
 }
 
 pub(crate) impl From<ImageFault> for Stop as StopFromImageFault {
@@ -15,13 +15,5 @@ pub(crate) impl From<ImageFault> for Stop as StopFromImageFault {
 
     fn from(fault: ImageFault) -> Stop {
         Stop::Fault(fault)
-    }
-}
-
-pub(crate) impl From<AllocError> for Stop as StopFromAllocError {
-    ghost converts = { λ error r. r ≡ Memory error };
-
-    fn from(error: AllocError) -> Stop {
-        Stop::Memory(error)
     }
 }

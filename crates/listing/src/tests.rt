@@ -1,5 +1,7 @@
 // What is printed of images, whole and at fault.
 use super::*;
+use std::alloc::AllocError;
+use std::alloc::Global;
 use std::test::*;
 
 // The amount, the weight and the two counts of a row.
@@ -21,10 +23,12 @@ fn image(heap: Global, header: &[u32; 6], rows: &[Row], len: usize) -> Result<Ve
     Ok(bytes)
 }
 
-// These bytes list as this text.
+// These bytes list as this text, which just fits.
 fn lists(heap: Global, bytes: &[u8], expected: &str) -> Result<(), Fail> {
-    let text = list(heap, bytes)?;
-    check_eq(std::str::from_utf8(text.as_slice())?, expected)
+    let mut text = vec![in heap; 0; expected.len()]?;
+    let end = list(bytes, text.as_mut_slice());
+    check_eq(end, Some(expected.len()))?;
+    check_eq(text.as_slice(), expected.as_bytes())
 }
 
 // Headers, with zeros after them up to a number of bytes, list as these texts.
@@ -168,6 +172,28 @@ fn one_row(rt: LibcRuntime) -> Result<(), Fail> {
     lists(rt.alloc(), good.as_slice(), "image 3 1 1\n-7 1 1 1\n")?;
     let bad = image(rt.alloc(), &header, &[(-7, 2, 1, 1)], 44)?;
     lists(rt.alloc(), bad.as_slice(), "refused 19 24 0 1\n")
+}
+
+#[test]
+fn the_room_of_a_listing(rt: LibcRuntime) -> Result<(), Fail> {
+    let bytes = image(rt.alloc(), &[3, 1, 0, 0, 24, 44], &[], 44)?;
+    let mut short = [b'.'; 11];
+    check_eq(list(bytes.as_slice(), &mut short), None)?;
+    let mut long = [b'.'; 14];
+    check_eq(list(bytes.as_slice(), &mut long), Some(12))?;
+    check_eq(&long[..], b"image 3 1 0\n..")?;
+    check_eq(list(&[], &mut long[0..12]), None)
+}
+
+#[test]
+fn the_longest_listing(rt: LibcRuntime) -> Result<(), Fail> {
+    let mut bytes = image(rt.alloc(), &[4, 3000, 3000, 0, 24, 60024], &[], 24)?;
+    for _ in 0..3000 {
+        bytes.extend_from_slice(&i64::MIN.to_le_bytes())?;
+        bytes.extend_from_slice(&[255; 12])?;
+    }
+    let mut text = vec![in rt.alloc(); 0; MOST_TEXT]?;
+    check_eq(list(bytes.as_slice(), text.as_mut_slice()), Some(MOST_TEXT))
 }
 
 #[test]

@@ -1,35 +1,28 @@
-// The parts of a line, put at the end of a text.
-ghost use mathlib.Core.Path.{_≡_};
-ghost use mathlib.Core.List.{_++_};
-ghost use Rattle.std.specs.Of.Vec.{vec-items};
-ghost use Rattle.std.specs.Vec.{made};
+// The parts of a line, put into bytes that are lent.
+ghost use mathlib.Core.List.{_∷_};
+ghost use Prim.Native.Nat.{_≤_};
+ghost use lib.ListN.{length};
 ghost use Rattle.std.specs.Written.{signed};
 ghost use Rattle.listing.specs.Lines.{ending};
-use std::alloc::AllocError;
+ghost use Rattle.listing.specs.Texts.{Puts};
+use bytes::put;
 
-// Room for any number of 64 bits, a sign and nineteen digits.
-const ROOM: [u8; 20] = [0; 20];
-
-// A number in decimal, straight into its place.
-pub(crate) fn push_number(text: &mut Vec<u8>, value: i64) -> Result<(), AllocError>
-    ensures { λ r. ⌜ made r (λ _. vec-items (now (text .exit)) ≡ vec-items (now (text .entry)) ++ signed value) ⌝ }
+// A space and a number.
+fn put_spaced(out: &mut [u8], at: usize, number: i64) -> Option<usize>
+    ensures { λ r. ⌜ Puts (now (out .entry)) at (32 ∷ signed number) r (now (out .exit)) ⌝ }
 {
-    let at = text.len();
-    text.extend_from_slice(&ROOM)?;
-    if let Some(end) = decimal::write(text.as_mut_slice(), at, value) {
-        text.truncate(end);
-    }
-    Ok(())
+    let at = put(out, at, b" ")?;
+    decimal::write(out, at, number)
 }
 
 // The rest of a line: numbers, each after a space, and the line's end.
-pub(crate) fn push_ending(text: &mut Vec<u8>, numbers: &[i64]) -> Result<(), AllocError>
-    ensures { λ r. ⌜ made r (λ _. vec-items (now (text .exit)) ≡ vec-items (now (text .entry)) ++ ending (now (numbers .entry))) ⌝ }
+pub(crate) fn put_ending(out: &mut [u8], at: usize, numbers: &[i64]) -> Option<usize>
+    requires { ⌜ at ≤ length (now out) ⌝ }
+    ensures { λ r. ⌜ Puts (now (out .entry)) at (ending (now (numbers .entry))) r (now (out .exit)) ⌝ }
 {
+    let mut end = at;
     for number in numbers {
-        text.push(b' ')?;
-        push_number(text, *number)?;
+        end = put_spaced(out, end, *number)?;
     }
-    text.push(b'\n')?;
-    Ok(())
+    put(out, end, b"\n")
 }

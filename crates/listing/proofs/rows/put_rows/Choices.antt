@@ -1,16 +1,15 @@
-use mathlib.Core.Path.{_≡_}
-use mathlib.Core.List.{_++_}
 use lib.ListN.{take}
 use Rattle.std.specs.Joined.{joined}
-use Rattle.std.specs.Of.Vec.{vec-items}
+use Rattle.std.specs.declared.option.Option.the-variants.{Some}
+use Rattle.element.specs.Kinds.{number-of-kind}
 use Rattle.image.specs.Headers.{header-in}
 use Rattle.image.specs.Images.{places}
-use Rattle.element.specs.Kinds.{number-of-kind}
 use Rattle.image.specs.Opened.{Opened, bytes-of}
 use Rattle.listing.specs.Listing.{row-line}
-use Rattle.listing.proofs.rows.push_rows.Given as given
+use Rattle.listing.specs.Texts.{Puts}
+use Rattle.listing.proofs.rows.put_rows.Given as given
 
 abbrev pub Inv-loop-index : given.InvT-loop-index
 Inv-loop-index g l =
     Opened (number-of-kind (g .E·Coded .kind)) (g .E·Coded .fault) (l .image)
-    → vec-items (l .text) ≡ vec-items (l .entry .text) ++ joined (row-line (bytes-of (l .image))) (take (l .index) (places (header-in (bytes-of (l .image)))))
+    → Puts (l .entry .out) (l .at) (joined (row-line (bytes-of (l .image))) (take (l .index) (places (header-in (bytes-of (l .image)))))) (Some (l .end)) (l .out)
