@@ -1,7 +1,6 @@
 -- The laws of items. Assumes nothing.
 use Rattle.consolidation.specs.Laws.{Lawful}
 use Rattle.consolidation.specs.Items.{item, item-joined}
-use Rattle.consolidation.specs.declared.item.Item.{Item}
 use Rattle.consolidation.proofs.Sums.{sum32-lawful}
 
 pub item-lawful : {E : Type 0} {empty : E} {joined : E → E → E} → Lawful empty joined → Lawful (item empty 0 0) (item-joined joined)

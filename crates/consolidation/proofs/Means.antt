@@ -2,7 +2,7 @@
 use mathlib.Core.Path.{_≡_, sym, ap, _∙_}
 use Prim.Native.Nat.{ℕ, _+_, _≤_}
 use native.Mathlib.Omega.{arith}
-use lib.IntN.{ℤ, pos, _+ℤ_, _*ℤ_, *ℤ-zero}
+use lib.IntN.{ℤ, pos, _*ℤ_, *ℤ-zero}
 use mir.Syntax.{w32, w64}
 use mir.Val.{SFits, Fits}
 use Rattle.std.specs.shelf.Signed.{wrapped}
@@ -10,7 +10,6 @@ use Rattle.std.proofs.shelf.Signed.{wrapped-fits}
 use Rattle.consolidation.specs.Laws.{Lawful}
 use Rattle.consolidation.specs.Sums.{sum32, sum64}
 use Rattle.consolidation.specs.Means.{mean, mean-joined, mean-held}
-use Rattle.consolidation.specs.declared.mean.Mean.{Mean}
 use Rattle.consolidation.proofs.Products.{spread, product-fits}
 use Rattle.consolidation.proofs.Sums.{sum32-lawful, sum32-fits, sum64-lawful, sum64-fits}
 

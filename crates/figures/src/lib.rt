@@ -1,6 +1,5 @@
 // Figures that were worked by hand, each from the definitions and from the code.
 ghost use mathlib.Core.Path.{_≡_};
-ghost use mathlib.Core.Bool.{true};
 ghost use lib.IntN.{pos, negsuc};
 ghost use Rattle.std.specs.declared.option.Option.the-variants.{Some};
 ghost use Rattle.consolidation.specs.Means.{mean};
@@ -18,47 +17,38 @@ use consolidation::single::Min;
 use consolidation::single::SingleConsolidation;
 use consolidation::single::SingleMonoid;
 
-fn held() -> Mean
-    ensures { λ r. ⌜ r ≡ mean (negsuc 11) 4 ⌝ }
-{
-    Mean::hold(-3, 4)
-}
-
-fn joined() -> Mean
-    ensures { λ r. ⌜ r ≡ mean (pos 8) 6 ⌝ }
-{
-    held().join(Mean {
-        amount: 20,
-        weight: 2,
-    })
-}
-
-fn least() -> Min
-    ensures { λ r. ⌜ r ≡ single (Some (pos 7)) ⌝ }
-{
-    Min::empty().join(Min::hold(7, 1))
-}
-
-fn last() -> Last
-    ensures { λ r. ⌜ r ≡ single (Some (pos 7)) ⌝ }
-{
-    Last::hold(7, 1).join(Last::empty())
-}
-
-// Whether `element` tells this amount and this weight.
-fn tells<E: Consolidation + Copy>(element: E, amount: i64, weight: u32) -> bool
-    ensures both { λ r. ⌜ (E·Consolidation .amount element ≡ amount → E·Consolidation .weight element ≡ weight → r ≡ true) ⌝ }
-    ensures only { λ r. ⌜ (r ≡ true → (E·Consolidation .amount element ≡ amount) × (E·Consolidation .weight element ≡ weight)) ⌝ }
-{
-    element.amount() == amount && element.weight() == weight
+// What the code makes of the figures.
+#[derive(Clone, Copy)]
+pub struct Made {
+    // −3 held for 4 seconds.
+    pub held: Mean,
+    // That, joined with the amount 20 and the weight 2.
+    pub joined: Mean,
+    // The min of empty and 7.
+    pub least: Min,
+    // The last of 7 and empty.
+    pub last: Last,
 }
 
 // The definitions compute the figures, and so does the code.
-pub fn figures() -> bool
+pub fn figures() -> Made
     ensures worked { λ _. ⌜ Figures ⌝ }
-    ensures answer { λ r. ⌜ r ≡ true ⌝ }
+    ensures held { λ r. ⌜ r .held ≡ mean (negsuc 11) 4 ⌝ }
+    ensures joined { λ r. ⌜ r .joined ≡ mean (pos 8) 6 ⌝ }
+    ensures least { λ r. ⌜ r .least ≡ single (Some (pos 7)) ⌝ }
+    ensures last { λ r. ⌜ r .last ≡ single (Some (pos 7)) ⌝ }
 {
-    tells(held(), -12, 4) && tells(joined(), 8, 6) && tells(least(), 7, 1) && tells(last(), 7, 1)
+    let held = Mean::hold(-3, 4);
+    let more = Mean {
+        amount: 20,
+        weight: 2,
+    };
+    Made {
+        held,
+        joined: held.join(more),
+        least: Min::empty().join(Min::hold(7, 1)),
+        last: Last::hold(7, 1).join(Last::empty()),
+    }
 }
 
 #[cfg(test)]

@@ -40,7 +40,7 @@ rows-in decoded s = map (item-at decoded s) (places (header-in s))
 abbrev pub place-of : (head held index : ℕ) → ℕ
 place-of head held index = cond (ltb index (held - head)) (head + index) (index - (held - head))
 
--- the element of an index, if there is one
+-- what stands at an index, if anything does
 abbrev pub nth : {X : Type 0} → List X → ℕ → Option X
 nth [] i = None
 nth (x ∷ xs) zero = Some x

@@ -7,15 +7,17 @@ ghost use Rattle.image.specs.Headers.{header-in, length-fault, kind-fault, spa
 ghost use Rattle.element.specs.Kinds.{number-of-kind};
 use crate::fault::ImageFault;
 use crate::number::read_u32;
-use crate::row::HEADER;
 use crate::row::ROW;
 use element::kind::Kind;
+
+// The bytes of a header, which stands before the rows.
+pub(crate) const HEADER: usize = 24;
 
 // The most rows that an image can have room for.
 pub const MOST_ROWS: u32 = 3_000;
 
-// The most bytes that an image can have: those of its header and of that many rows.
-pub const MOST_BYTES: usize = 60_024;
+// The most bytes that an image can have, 60,024.
+pub const MOST_BYTES: usize = HEADER + ROW * MOST_ROWS as usize;
 
 #[derive(Clone, Copy)]
 pub struct Header {

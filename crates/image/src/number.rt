@@ -2,8 +2,6 @@
 ghost use mathlib.Core.Path.{_≡_};
 ghost use Prim.Native.Nat.{_+_, _≤_};
 ghost use lib.ListN.{length};
-ghost use mir.Syntax.{w64};
-ghost use mir.Val.{ofZ};
 ghost use Rattle.bytes.specs.Placed.{placed};
 ghost use Rattle.image.specs.Numbers.{le32, le64, bytes32, bytes64};
 use bytes::put;
@@ -28,6 +26,7 @@ pub(crate) fn write_u32(bytes: &mut [u8], at: usize, n: u32)
     requires { ⌜ at + 4 ≤ length (now bytes) ⌝ }
     ensures { λ _. ⌜ now (bytes .exit) ≡ placed (now (bytes .entry)) at (bytes32 n) ⌝ }
 {
+    // There is room, so it is put.
     let _ = put(bytes, at, &n.to_le_bytes());
 }
 

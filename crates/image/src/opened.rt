@@ -21,7 +21,7 @@ use consolidation::item::Item;
 use element::coded::Coded;
 use std::marker::PhantomData;
 
-#[derive_where(Clone, Copy)]
+#[derive(Drop)]
 pub struct Image<'a, E> {
     bytes: &'a [u8],
     header: Header,

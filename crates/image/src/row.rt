@@ -4,6 +4,7 @@ ghost use Prim.Native.Nat.{_+_, _≤_};
 ghost use lib.ListN.{length};
 ghost use Rattle.element.specs.Faults.{unless};
 ghost use Rattle.image.specs.Rows.{row-start, fault-at, item-at, WritesRow};
+use crate::header::HEADER;
 use crate::number::read_u32;
 use crate::number::read_u64;
 use crate::number::write_u32;
@@ -11,9 +12,6 @@ use crate::number::write_u64;
 use consolidation::item::Item;
 use element::coded::Coded;
 use element::fault::ElementFault;
-
-// The bytes of the header, which stands before the rows.
-pub(crate) const HEADER: usize = 24;
 
 // The bytes of a row.
 pub(crate) const ROW: usize = 20;

@@ -17,7 +17,7 @@ use Rattle.image.specs.Headers.{header-in, kind-read}
 use Rattle.image.specs.Images.{image-fault, places}
 use Rattle.listing.specs.declared.stop.Stop.{Stop}
 use Rattle.listing.specs.declared.stop.Stop.the-variants.{Fault, Full}
-use Rattle.listing.specs.Listing.{header-line, row-line, shown, element-fault, shown-unless, listing-of, listing, refusal}
+use Rattle.listing.specs.Listing.{header-line, row-line, element-fault, shown-unless, listing-of, listing}
 use Rattle.listing.specs.Shows.{Shows, ShowsAny}
 use Rattle.listing.specs.Texts.{Puts}
 use Rattle.listing.proofs.Texts.{puts-more, puts-short}

@@ -5,7 +5,7 @@ ghost use Rattle.listing.specs.Listing.{listing};
 ghost use Rattle.listing.specs.Shows.{Shows, ShowsAny};
 ghost use Rattle.listing.specs.Texts.{Puts};
 
-mod rows;
+mod lines;
 mod stop;
 mod text;
 
@@ -24,13 +24,13 @@ use element::coded::SingleCoded;
 use element::kind::Kind;
 use image::header::kind_of;
 use image::opened::Image;
-use rows::put_header;
-use rows::put_refusal;
-use rows::put_rows;
+use lines::put_header;
+use lines::put_refusal;
+use lines::put_rows;
 use stop::Stop;
 use stop::StopFromImageFault;
 
-// Room for the listing of any image: a line of at most 18 bytes, and one of at most 54 for each of 3,000 rows.
+// What the longest listing takes: 18 bytes for the header's line, and 54 for that of each of 3,000 rows.
 pub const MOST_TEXT: usize = 162_018;
 
 // The text of an image of one kind.

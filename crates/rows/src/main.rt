@@ -2,21 +2,27 @@
 use image::header::MOST_BYTES;
 use listing::MOST_TEXT;
 use listing::list;
+use std::alloc::Global;
 use std::error::AnyError;
 use std::io::Read;
 use std::io::Write;
 
-fn main(rt: LibcRuntime) -> Result<(), AnyError> {
-    let mut image = Vec::new(rt.alloc());
-    // One byte more than an image can have, so that a longer input is seen to be too long.
-    rt.stdin()
-        .take(MOST_BYTES as u64 + 1)
-        .read_to_end(&mut image)?;
-    let mut text = vec![in rt.alloc(); 0; MOST_TEXT]?;
+// Reads one byte more than an image can have, so that a longer input is seen to be too long.
+fn run<R: Read + Drop, W: Write>(heap: Global, input: R, output: &mut W) -> Result<(), AnyError> {
+    let mut image = Vec::new(heap);
+    input.take(MOST_BYTES as u64 + 1).read_to_end(&mut image)?;
+    let mut text = vec![in heap; 0; MOST_TEXT]?;
     let Some(end) = list(image.as_slice(), text.as_mut_slice()) else {
         return Err("the listing does not fit".into());
     };
     text.truncate(end);
-    rt.stdout().write_all(text.as_slice())?;
+    output.write_all(text.as_slice())?;
     Ok(())
 }
+
+fn main(rt: LibcRuntime) -> Result<(), AnyError> {
+    rt.report(run(rt.alloc(), rt.stdin(), &mut rt.stdout()))
+}
+
+#[cfg(test)]
+mod tests;

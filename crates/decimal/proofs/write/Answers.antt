@@ -1,7 +1,7 @@
-use mathlib.Core.Path.{_≡_, subst, ap, _∙_}
+use mathlib.Core.Path.{subst, ap, _∙_}
 use Prim.Native.Nat.{_-_}
 use native.Mathlib.Omega.{arith}
-use lib.ListN.{length, take}
+use lib.ListN.{take}
 use Rattle.bytes.specs.Placed.{Writes}
 use Rattle.std.specs.Written.{signed}
 use Rattle.std.proofs.shelf.Lists.{take-all}

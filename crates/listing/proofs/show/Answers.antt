@@ -1,4 +1,4 @@
-use mathlib.Core.Path.{_≡_, subst}
+use mathlib.Core.Path.{subst}
 use Rattle.std.specs.Options.{okOr}
 use Rattle.std.specs.declared.result.Result.the-variants.{Err}
 use Rattle.element.specs.Kinds.{number-of-kind}

@@ -1,4 +1,4 @@
-use mathlib.Core.Path.{_≡_, sym, ap, _∙_}
+use mathlib.Core.Path.{ap, _∙_}
 use lib.Seq.{take-all}
 use borrow.Author.Needs.{needs}
 use Rattle.std.specs.Iters.{folded}

@@ -6,12 +6,9 @@ use mir.Syntax.{w64}
 use mir.Val.{SFits, toZ, ofZ}
 use borrow.Author.Needs.{needs}
 use Rattle.std.specs.Written.{signed}
-use Rattle.std.specs.declared.option.Option.the-variants.{Some, None}
 use Rattle.std.proofs.shelf.Signed.{toZ-ofZ}
-use Rattle.listing.specs.Lines.{ending}
-use Rattle.listing.specs.Texts.{Puts}
 use Rattle.listing.proofs.Texts.{puts-short, puts-line, widened}
-use Rattle.listing.proofs.rows.put_row.Needs as need
+use Rattle.listing.proofs.lines.put_row.Needs as need
 
 pub returns-in-Break-at : need.returns-in-Break-at
 returns-in-Break-at g c =

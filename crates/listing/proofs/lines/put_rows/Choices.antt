@@ -7,7 +7,7 @@ use Rattle.image.specs.Images.{places}
 use Rattle.image.specs.Opened.{Opened, bytes-of}
 use Rattle.listing.specs.Listing.{row-line}
 use Rattle.listing.specs.Texts.{Puts}
-use Rattle.listing.proofs.rows.put_rows.Given as given
+use Rattle.listing.proofs.lines.put_rows.Given as given
 
 abbrev pub Inv-loop-index : given.InvT-loop-index
 Inv-loop-index g l =

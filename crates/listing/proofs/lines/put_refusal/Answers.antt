@@ -1,4 +1,4 @@
-use mathlib.Core.Path.{_≡_, sym, ap, _∙_}
+use mathlib.Core.Path.{sym, ap, _∙_}
 use mathlib.Core.List.{[], _∷_}
 use Prim.Native.Nat.{_<_, _^_}
 use lib.Chars.{codes}
@@ -8,7 +8,7 @@ use Rattle.image.specs.Faults.{number-of-fault, byte-of-fault}
 use Rattle.listing.specs.Listing.{details}
 use Rattle.listing.proofs.Listed.{plain}
 use Rattle.listing.proofs.Texts.{puts-line, widened}
-use Rattle.listing.proofs.rows.put_refusal.Needs as need
+use Rattle.listing.proofs.lines.put_refusal.Needs as need
 
 pub returns-in-Element : need.returns-in-Element
 returns-in-Element c =

@@ -4,9 +4,7 @@ use mathlib.Core.List.{append-nil}
 use Prim.Native.Nat.{_+_, _<_}
 use native.Mathlib.Omega.{arith}
 use lib.ListN.{length}
-use Rattle.std.specs.Joined.{joined}
 use Rattle.std.specs.declared.option.Option.the-variants.{Some, None}
-use Rattle.std.proofs.shelf.Lists.{take-all}
 use Rattle.element.specs.Kinds.{number-of-kind}
 use Rattle.image.specs.Headers.{header-in}
 use Rattle.image.specs.Images.{places}
@@ -18,8 +16,8 @@ use Rattle.listing.specs.Listing.{row-line}
 use Rattle.listing.specs.Texts.{Puts}
 use Rattle.listing.proofs.Listed.{row-listed}
 use Rattle.listing.proofs.Texts.{puts-none, puts-next, puts-stop, puts-all}
-use Rattle.listing.proofs.rows.put_rows.Needs as need
-use Rattle.listing.proofs.rows.put_rows.Needs.{in-Some·in-Continue-end, in-rest}
+use Rattle.listing.proofs.lines.put_rows.Needs as need
+use Rattle.listing.proofs.lines.put_rows.Needs.{in-Some·in-Continue-end, in-rest}
 
 pub loop-index-holds : need.loop-index-holds
 loop-index-holds g c opened = puts-none (c .args .out .now) (c .args .at) (c .pre)

@@ -11,7 +11,7 @@ use Rattle.image.specs.Rows.{item-at}
 use Rattle.image.proofs.Places.{length-rows}
 use Rattle.image.proofs.Reading.{header-sound}
 use Rattle.listing.proofs.Texts.{puts-line, widened}
-use Rattle.listing.proofs.rows.put_header.Needs as need
+use Rattle.listing.proofs.lines.put_header.Needs as need
 
 pub returns : need.returns
 returns g c opened =

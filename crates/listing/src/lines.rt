@@ -58,6 +58,7 @@ pub(crate) fn put_rows<E: Coded + Copy>(
 {
     let mut end = at;
     for index in 0..image.held() {
+        // Each index below the number held has a row.
         if let Some(row) = image.row(index) {
             end = put_row(out, end, row)?;
         }
