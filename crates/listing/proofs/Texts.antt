@@ -8,7 +8,9 @@ use lib.IntN.{ℤ, pos}
 use lib.ListN.{length, getD, take, drop, length-append, take-append-drop}
 use mir.Syntax.{w64}
 use mir.Val.{toZ}
+use mathlib.Core.Bool.{true}
 use Rattle.std.specs.Joined.{joined}
+use Rattle.std.specs.Options.{isSome}
 use Rattle.std.specs.declared.option.Option.{Option}
 use Rattle.std.specs.declared.option.Option.the-variants.{Some, None}
 use Rattle.std.proofs.shelf.Lists.{take-all, take-more, joined-more}
@@ -26,6 +28,11 @@ puts before at text None after w = w .0
 -- no text at all
 pub puts-none : (s : List ℕ) (at : ℕ) → at ≤ length s → Puts s at [] (Some at) s
 puts-none s at within = (sym (add-zero at), within, sym (ap (λ k. take at s ++ drop k s) (add-zero at) ∙ take-append-drop at s))
+
+-- where there is room, it fits
+pub fitting : (before : List ℕ) (text : List ℕ) (r : Option ℕ) (after : List ℕ) → Puts before 0 text r after → length text ≤ 162018 → 162018 ≤ length before → isSome r ≡ true
+fitting before text (Some end) after p short room = refl
+fitting before text None after p short room = absurd (omega (arith, p))
 
 -- a text, and then another
 pub puts-more : (s t u : List ℕ) (at mid : ℕ) (xs ys : List ℕ) (r : Option ℕ) → Puts s at xs (Some mid) t → Puts t mid ys r u → Puts s at (xs ++ ys) r u

@@ -1,4 +1,9 @@
 // What the program `rows` prints of an image.
+ghost use mathlib.Core.Bool.{true};
+ghost use mathlib.Core.Path.{_≡_};
+ghost use Prim.Native.Nat.{_≤_};
+ghost use lib.ListN.{length};
+ghost use Rattle.std.specs.Options.{isSome};
 ghost use Rattle.element.specs.Kinds.{number-of-kind};
 ghost use Rattle.image.specs.Images.{image-fault};
 ghost use Rattle.listing.specs.Listing.{listing};
@@ -30,7 +35,7 @@ use lines::put_rows;
 use stop::Stop;
 use stop::StopFromImageFault;
 
-// What the longest listing takes: 18 bytes for the header's line, and 54 for that of each of 3,000 rows.
+// Room for every listing: the longest takes 18 bytes for the header's line, and 54 for that of each of 3,000 rows.
 pub const MOST_TEXT: usize = 162_018;
 
 // The text of an image of one kind.
@@ -56,9 +61,11 @@ fn show_any(bytes: &[u8], out: &mut [u8]) -> Result<usize, Stop>
     }
 }
 
-// Puts the listing of an image at the start of `out`, and answers where it ends; or it does not fit. The bytes may be anything: a fault is listed too.
+// Puts the listing of an image at the start of `out`, and answers where it ends; or it does not fit, which never is in `MOST_TEXT` bytes.
+// What is listed may be anything: a fault is listed too.
 pub fn list(bytes: &[u8], out: &mut [u8]) -> Option<usize>
-    ensures { λ r. ⌜ Puts (now (out .entry)) 0 (listing (now (bytes .entry))) r (now (out .exit)) ⌝ }
+    ensures text { λ r. ⌜ Puts (now (out .entry)) 0 (listing (now (bytes .entry))) r (now (out .exit)) ⌝ }
+    ensures fits { λ r. ⌜ (162018 ≤ length (now (out .entry)) → isSome r ≡ true) ⌝ }
 {
     match show_any(bytes, out) {
         Ok(end) => Some(end),

@@ -1,8 +1,11 @@
 // The lines of a listing.
+ghost use mathlib.Core.Bool.{true};
 ghost use mathlib.Core.List.{[], _∷_};
+ghost use mathlib.Core.Path.{_≡_};
 ghost use Prim.Native.Nat.{_≤_};
 ghost use lib.IntN.{pos};
 ghost use lib.ListN.{length};
+ghost use Rattle.std.specs.Options.{isSome};
 ghost use Rattle.std.specs.Joined.{joined};
 ghost use Rattle.std.specs.Written.{signed};
 ghost use Rattle.element.specs.Kinds.{number-of-kind};
@@ -68,7 +71,8 @@ pub(crate) fn put_rows<E: Coded + Copy>(
 
 // `refused`, the fault's number and byte, and of an element its place and what is wrong with it.
 pub(crate) fn put_refusal(out: &mut [u8], fault: ImageFault) -> Option<usize>
-    ensures { λ r. ⌜ Puts (now (out .entry)) 0 (refusal fault) r (now (out .exit)) ⌝ }
+    ensures text { λ r. ⌜ Puts (now (out .entry)) 0 (refusal fault) r (now (out .exit)) ⌝ }
+    ensures fits { λ r. ⌜ (162018 ≤ length (now (out .entry)) → isSome r ≡ true) ⌝ }
 {
     let at = put(out, 0, b"refused")?;
     let number = fault.number() as i64;
