@@ -4,5 +4,3 @@ pub mod header;
 mod number;
 pub mod opened;
 pub mod row;
-#[cfg(test)]
-mod tests;

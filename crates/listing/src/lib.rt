@@ -73,6 +73,3 @@ pub fn list(bytes: &[u8], out: &mut [u8]) -> Option<usize>
         Err(Stop::Full) => None,
     }
 }
-
-#[cfg(test)]
-mod tests;

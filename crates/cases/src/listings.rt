@@ -1,5 +1,6 @@
 // What is printed of images, whole and at fault.
-use super::*;
+use listing::MOST_TEXT;
+use listing::list;
 use std::alloc::AllocError;
 use std::alloc::Global;
 use std::test::*;

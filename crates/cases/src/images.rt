@@ -1,12 +1,4 @@
 // Rows that are written and read back, other kinds, and the numbers of faults.
-use crate::fault::BadElement;
-use crate::fault::ImageFault;
-use crate::fault::ImageFaultDebug;
-use crate::fault::ImageFaultPartialEq;
-use crate::header::kind_of;
-use crate::number::write_u32;
-use crate::opened::Image;
-use crate::row::write_row;
 use consolidation::item::Item;
 use consolidation::mean::Mean;
 use consolidation::single::Last;
@@ -23,6 +15,13 @@ use element::fault::ElementFaultDebug;
 use element::kind::Kind;
 use element::kind::KindDebug;
 use element::kind::KindPartialEq;
+use image::fault::BadElement;
+use image::fault::ImageFault;
+use image::fault::ImageFaultDebug;
+use image::fault::ImageFaultPartialEq;
+use image::header::kind_of;
+use image::opened::Image;
+use image::row::write_row;
 use std::test::*;
 
 // The amount, the weight and the two counts of a row.
@@ -31,12 +30,12 @@ type Row = (i64, u32, u32, u32);
 // A full ring of two rows that are all zero, the older of them at place 1.
 fn ring(kind: u32) -> [u8; 64] {
     let mut bytes = [0; 64];
-    write_u32(&mut bytes, 0, kind);
-    write_u32(&mut bytes, 4, 2);
-    write_u32(&mut bytes, 8, 2);
-    write_u32(&mut bytes, 12, 1);
-    write_u32(&mut bytes, 16, 24);
-    write_u32(&mut bytes, 20, 64);
+    bytes[0..4].copy_from_slice(&kind.to_le_bytes());
+    bytes[4] = 2;
+    bytes[8] = 2;
+    bytes[12] = 1;
+    bytes[16] = 24;
+    bytes[20] = 64;
     bytes
 }
 
