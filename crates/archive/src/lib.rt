@@ -1,4 +1,6 @@
 // Archives: what keeps the newest rows of all the items that it was given.
+#![tactic(auto)]
+
 pub mod archive;
 pub mod cursor;
 pub mod entry;

@@ -1,4 +1,6 @@
 // The tests of `image` and `listing`, in a crate of their own: a crate with tests is proved twice, and those above it wait for that.
+#![tactic(auto)]
+
 #[cfg(test)]
 mod images;
 #[cfg(test)]

@@ -23,12 +23,18 @@ fn image(heap: Global, header: &[u32; 6], rows: &[Row], len: usize) -> Result<Ve
     Ok(bytes)
 }
 
-// These bytes list as this text, which just fits.
-fn lists(rt: &impl Abort, heap: Global, bytes: &[u8], expected: &str) -> Result<(), Fail> {
+// These bytes, which `what` tells, list as this text, which just fits.
+fn lists(
+    rt: &impl Abort,
+    heap: Global,
+    bytes: &[u8],
+    expected: &str,
+    what: &str,
+) -> Result<(), Fail> {
     let mut text = vec![in heap; 0; expected.len()]?;
     let end = list(bytes, text.as_mut_slice());
-    assert_eq!(rt; end, Some(expected.len()));
-    assert_eq!(rt; text.as_slice(), expected.as_bytes());
+    assert_eq!(rt; end, Some(expected.len()), "{what}");
+    assert_eq!(rt; text.as_slice(), expected.as_bytes(), "{what}");
     Ok(())
 }
 
@@ -40,9 +46,8 @@ fn headers_list(
 ) -> Result<(), Fail> {
     for (header, len, expected) in cases {
         let bytes = image(heap, header, &[], *len)?;
-        lists(rt, heap, bytes.as_slice(), expected).note(format_args!(
-            "the header {header:?} of {len} bytes"
-        ))?;
+        let what = format!(in heap; "the header {header:?} of {len} bytes")?;
+        lists(rt, heap, bytes.as_slice(), expected, what.as_str())?;
     }
     Ok(())
 }
@@ -55,9 +60,8 @@ fn rows_list(
 ) -> Result<(), Fail> {
     for (header, rows, expected) in cases {
         let bytes = image(heap, header, rows, 84)?;
-        lists(rt, heap, bytes.as_slice(), expected).note(format_args!(
-            "the header {header:?} before {rows:?}"
-        ))?;
+        let what = format!(in heap; "the header {header:?} before {rows:?}")?;
+        lists(rt, heap, bytes.as_slice(), expected, what.as_str())?;
     }
     Ok(())
 }
@@ -81,9 +85,8 @@ fn element_lists(
         Some(number) => format!(in heap; "refused 19 24 0 {number}\n")?,
         None => format!(in heap; "image {kind} 1 1\n{amount} {weight} 2 3\n")?,
     };
-    lists(rt, heap, bytes.as_slice(), expected.as_str()).note(format_args!(
-        "the element {amount} {weight} of kind {kind}"
-    ))
+    let what = format!(in heap; "the element {amount} {weight} of kind {kind}")?;
+    lists(rt, heap, bytes.as_slice(), expected.as_str(), what.as_str())
 }
 
 #[test]
@@ -184,9 +187,21 @@ fn the_first_fault_answers(rt: HostRuntime) -> Result<(), Fail> {
 fn one_row(rt: HostRuntime) -> Result<(), Fail> {
     let header = [3, 1, 1, 0, 24, 44];
     let good = image(rt.alloc(), &header, &[(-7, 1, 1, 1)], 44)?;
-    lists(&rt, rt.alloc(), good.as_slice(), "image 3 1 1\n-7 1 1 1\n")?;
+    lists(
+        &rt,
+        rt.alloc(),
+        good.as_slice(),
+        "image 3 1 1\n-7 1 1 1\n",
+        "one good row",
+    )?;
     let bad = image(rt.alloc(), &header, &[(-7, 2, 1, 1)], 44)?;
-    lists(&rt, rt.alloc(), bad.as_slice(), "refused 19 24 0 1\n")
+    lists(
+        &rt,
+        rt.alloc(),
+        bad.as_slice(),
+        "refused 19 24 0 1\n",
+        "one bad row",
+    )
 }
 
 #[test]
@@ -196,7 +211,7 @@ fn the_room_of_a_listing(rt: HostRuntime) -> Result<(), Fail> {
     assert_eq!(rt; list(bytes.as_slice(), &mut short), None);
     let mut long = [b'.'; 14];
     assert_eq!(rt; list(bytes.as_slice(), &mut long), Some(12));
-    assert_eq!(rt; &long[..], b"image 3 1 0\n..");
+    assert_eq!(rt; &long[..], b"image 3 1 0\n..".as_slice());
     assert_eq!(rt; list(&[], &mut long[0..12]), None);
     Ok(())
 }

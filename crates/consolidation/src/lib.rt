@@ -1,4 +1,6 @@
 // Consolidations: how readings that were held for some seconds are joined into one element.
+#![tactic(auto)]
+
 pub mod consolidation;
 pub mod fold;
 pub mod item;

@@ -33,7 +33,7 @@ fn of<P>(reading: Option<i32>) -> Single<P>
 impl<P: Pick> Monoid for Single<P> {
     ghost empty = { single None };
 
-    ghost joined = { single_joined picked };
+    ghost joined = { single_joined P.picked };
 
     ghost lawful = { Prim.search rules };
 

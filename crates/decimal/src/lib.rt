@@ -1,4 +1,6 @@
 // Writes a number in decimal into bytes that are lent.
+#![tactic(auto)]
+
 ghost use Rattle.std.specs.Prelude.{◌≡◌, ◌+◌, length, drop, decimal};
 ghost use Rattle.lent_bytes.specs.Placed.{Writes};
 ghost use Rattle.std.specs.Fmt.{signed_decimal};

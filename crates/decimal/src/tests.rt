@@ -4,7 +4,7 @@ use super::*;
 fn lowest_in_the_middle(rt: HostRuntime) {
     let mut out = [b'.'; 24];
     assert_eq!(rt; write(&mut out, 2, i64::MIN), Some(22));
-    assert_eq!(rt; &out[..], b"..-9223372036854775808..");
+    assert_eq!(rt; &out[..], b"..-9223372036854775808..".as_slice());
 }
 
 #[test]
@@ -14,7 +14,7 @@ fn one_after_another(rt: HostRuntime) {
     assert_eq!(rt; write(&mut out, 2, -1), Some(4));
     assert_eq!(rt; write(&mut out, 5, 10), Some(7));
     assert_eq!(rt; write(&mut out, 7, i64::MAX), Some(26));
-    assert_eq!(rt; &out[..], b"0.-1.109223372036854775807");
+    assert_eq!(rt; &out[..], b"0.-1.109223372036854775807".as_slice());
 }
 
 #[test]
@@ -24,5 +24,5 @@ fn no_room(rt: HostRuntime) {
     assert_eq!(rt; write(&mut out, 3, 0), None);
     assert_eq!(rt; write(&mut out, 4, 0), None);
     assert_eq!(rt; write(&mut out, usize::MAX, 0), None);
-    assert_eq!(rt; &out[..], b"...");
+    assert_eq!(rt; &out[..], b"...".as_slice());
 }

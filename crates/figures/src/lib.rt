@@ -1,4 +1,6 @@
 // Figures that were worked by hand, each from the definitions and from the code.
+#![tactic(auto)]
+
 ghost use Rattle.std.specs.Prelude.{◌≡◌, pos, negsuc, Some};
 ghost use Rattle.archive.specs.Entries.{item_counts, shown};
 ghost use Rattle.consolidation.specs.Items.{item};

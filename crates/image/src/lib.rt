@@ -1,4 +1,6 @@
 // The image of a ring of rows: its bytes, what can be wrong with them, and the rows that they hold.
+#![tactic(auto)]
+
 pub mod fault;
 pub mod header;
 mod number;

@@ -56,12 +56,12 @@ module _ {M : Type 0} {empty : M} {joined : M → M → M} (laws : Lawful empty 
   start_twice first middle top is_m is_middle is_top =
       let f = fit_parts (outer * inner) m.width fits in
       let over : ℕ → Meaning M → Meaning M = λ factor n. coarser joined n (fit_factor factor n.width) 0 empty in
-      let in-groups : ℕ → Meaning M = λ factor. coarser joined m factor 0 empty in
-      let low : middle ≡ in-groups inner = is_middle ∙ ap (over inner) is_m ∙ ap in-groups (fit_taken inner m.width (fit_inner outer inner m.width f)) in
+      let in_groups : ℕ → Meaning M = λ factor. coarser joined m factor 0 empty in
+      let low : middle ≡ in_groups inner = is_middle ∙ ap (over inner) is_m ∙ ap in_groups (fit_taken inner m.width (fit_inner outer inner m.width f)) in
       let none : outer * 0 + 0 ≡ 0 = omega arith in
       is_top
       ∙ ap (over outer) low
-      ∙ ap (λ factor. coarser joined (in-groups inner) factor 0 empty) (fit_taken outer (inner * m.width) (fit_outer outer inner m.width f))
+      ∙ ap (λ factor. coarser joined (in_groups inner) factor 0 empty) (fit_taken outer (inner * m.width) (fit_outer outer inner m.width f))
       ∙ coarser-coarser laws m inner 0 empty outer 0 empty
       ∙ ap (λ count. coarser joined m (outer * inner) count (joined empty empty)) none
       ∙ ap (coarser joined m (outer * inner) 0) (laws.left_unit empty)

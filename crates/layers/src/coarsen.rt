@@ -52,9 +52,9 @@ impl<A: Archive> Coarsen<A> {
     // Where `check` refuses, the factor is 1: each item is stored as it is.
     pub fn new(below: A, factor: u32) -> Coarsen<A>
         ensures below { result.below ≡ below }
-        ensures well { A.Archive.well below → coarsen_well Item-as-Monoid.empty A.Archive.well A.Archive.meaning result }
-        ensures value { A.Archive.well below → coarsen_meaning Item-as-Monoid.joined A.Archive.meaning result ≡ coarser Item-as-Monoid.joined (A.Archive.meaning below) (fit_factor factor (A.Archive.meaning below).width) 0 Item-as-Monoid.empty }
-        ensures fresh { (width span allowance : ℕ) → A.Archive.well below → A.Archive.meaning below ≡ fresh Item-as-Monoid.empty width span allowance → coarsen_meaning Item-as-Monoid.joined A.Archive.meaning result ≡ fresh Item-as-Monoid.empty (fit_factor factor width * width) span allowance }
+        ensures well { A.Archive.well below → coarsen_well A.Item.Monoid.empty A.Archive.well A.Archive.meaning result }
+        ensures value { A.Archive.well below → coarsen_meaning A.Item.Monoid.joined A.Archive.meaning result ≡ coarser A.Item.Monoid.joined (A.Archive.meaning below) (fit_factor factor (A.Archive.meaning below).width) 0 A.Item.Monoid.empty }
+        ensures fresh { (width span allowance : ℕ) → A.Archive.well below → A.Archive.meaning below ≡ fresh A.Item.Monoid.empty width span allowance → coarsen_meaning A.Item.Monoid.joined A.Archive.meaning result ≡ fresh A.Item.Monoid.empty (fit_factor factor width * width) span allowance }
     {
         let factor = fit_factor(factor, below.width());
         Coarsen {

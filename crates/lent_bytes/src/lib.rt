@@ -1,4 +1,6 @@
 // Bytes put into a slice that is lent.
+#![tactic(auto)]
+
 ghost use Rattle.lent_bytes.specs.Placed.{Writes};
 
 // Puts `text` at the place `at` of `out`, and answers the place after it; where it does not fit, nothing is changed.

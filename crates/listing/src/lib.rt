@@ -1,4 +1,6 @@
 // What the program `rows` prints of an image.
+#![tactic(auto)]
+
 ghost use Rattle.std.specs.Prelude.{◌≡◌, ◌≤◌, true, length, is_some};
 ghost use Rattle.element.specs.Kinds.{number_of_kind};
 ghost use Rattle.image.specs.Images.{image_fault};

@@ -11,12 +11,12 @@ ghost use Rattle.listing.specs.Listing.{header_line, row_line, refusal};
 ghost use Rattle.listing.specs.Texts.{Puts};
 
 use crate::text::put_ending;
-use lent_bytes::put;
 use consolidation::consolidation::Consolidation;
 use consolidation::item::Item;
 use element::coded::Coded;
 use image::fault::ImageFault;
 use image::opened::Image;
+use lent_bytes::put;
 
 // `image`, the kind, how many rows there is room for, and how many are held.
 pub(crate) fn put_header<E: Coded + Copy>(out: &mut [u8], image: &Image<E>) -> Option<usize>

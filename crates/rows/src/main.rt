@@ -1,4 +1,6 @@
 // Prints what an image on standard input holds, or what is wrong with it.
+#![tactic(auto)]
+
 use image::header::MOST_BYTES;
 use listing::{MOST_TEXT, list};
 use std::alloc::Global;

@@ -66,15 +66,28 @@ fn stands<E: Consolidation + Copy, A: Archive<Item = Item<E>>>(
     let open = rows.wrapping_mul(width);
     assert_eq!(rt;
         (archive.width(), archive.span(), archive.held()),
-        (width, span, held)
+        (width, span, held),
+        "after {given} points"
     );
-    assert_eq!(rt; archive.begun(), given.wrapping_sub(open));
-    assert_eq!(rt; told(archive.part()), told(points::<E>(open, given)));
-    assert!(rt; archive.ask(held).is_none());
+    assert_eq!(rt;
+        archive.begun(),
+        given.wrapping_sub(open),
+        "after {given} points"
+    );
+    assert_eq!(rt;
+        told(archive.part()),
+        told(points::<E>(open, given)),
+        "after {given} points"
+    );
+    assert!(rt; archive.ask(held).is_none(), "after {given} points");
     for age in 0..held {
         let row = archive.ask(age).ok_or("no row")?;
         let end = open.wrapping_sub(age.wrapping_mul(width));
-        assert_eq!(rt; told(row), told(points::<E>(end.wrapping_sub(width), end)));
+        assert_eq!(rt;
+            told(row),
+            told(points::<E>(end.wrapping_sub(width), end)),
+            "after {given} points"
+        );
     }
     Ok(())
 }
@@ -87,7 +100,7 @@ fn runs<E: Consolidation + Copy, A: Archive<Item = Item<E>> + Drop>(
     span: u32,
 ) -> Result<(), Fail> {
     for given in 0..130 {
-        stands(rt, &archive, width, span, given).note(format_args!("after {given} points"))?;
+        stands(rt, &archive, width, span, given)?;
         archive.store(point(given));
     }
     Ok(())

@@ -107,13 +107,18 @@ fn the_latest_row_is_always_laid_out(rt: HostRuntime) {
 
 // Bytes that are refused stay as they are, and the ring over them holds nothing.
 fn stays<E: Coded + Copy>(rt: &impl Abort, bytes: &mut [u8], before: &[u8]) -> Result<(), Fail> {
-    assert_eq!(rt; ImageRing::<E>::check(bytes), Err(Refusal::Span));
+    let len = bytes.len();
+    assert_eq!(rt;
+        ImageRing::<E>::check(bytes),
+        Err(Refusal::Span),
+        "{len} bytes"
+    );
     let mut ring = ImageRing::<E>::new(bytes);
     ring.store(item(7));
     is_an_end(rt, &ring, 0);
     holds(rt, &ring, 7, 0)?;
-    assert!(rt; ring.open().is_none());
-    assert_eq!(rt; ring.bytes(), before);
+    assert!(rt; ring.open().is_none(), "{len} bytes");
+    assert_eq!(rt; ring.bytes(), before, "{len} bytes");
     Ok(())
 }
 
@@ -122,9 +127,7 @@ fn wrong_bytes_stay(rt: HostRuntime) -> Result<(), Fail> {
     for len in [0, 1, 23, 24, 25, 43, 45, 63, 60_023, 60_025, 60_044] {
         let mut bytes = vec![in rt.alloc(); 0xa5; len]?;
         let before = vec![in rt.alloc(); 0xa5; len]?;
-        stays::<Mean>(&rt, bytes.as_mut_slice(), before.as_slice()).note(format_args!(
-            "{len} bytes"
-        ))?;
+        stays::<Mean>(&rt, bytes.as_mut_slice(), before.as_slice())?;
         assert_eq!(rt; bytes.as_slice(), before.as_slice());
     }
     Ok(())

@@ -15,8 +15,8 @@ loop-rest-init c = (
   sym (ap (λ l. decimal c.args.value ++ l) (drop_all 20 c.args.scratch.now (omega arith)) ∙ append-nil _),
 )
 
-pub overflow-sub-start : goal.overflow-sub-start
-overflow-sub-start c = (here c).some
+pub overflow_sub-start : goal.overflow_sub-start
+overflow_sub-start c = (here c).some
 
 pub returns-then-rest-eq0 : goal.returns-then-rest-eq0
 returns-then-rest-eq0 c =

@@ -10,5 +10,5 @@ returns c =
     let long : at + length text - at ≡ length text = omega arith in (
       refl,
       omega (arith, c.if-at-out.false, c.if-out-at.false),
-      (λ i. take at was ++ (c.copy-from-slice.ensures.after i ++ drop (long i) (drop at was))) ∙ ap (λ l. take at was ++ (text ++ l)) (drop-drop (length text) at was),
+      (λ i. take at was ++ (c.copy_from_slice.ensures.after i ++ drop (long i) (drop at was))) ∙ ap (λ l. take at was ++ (text ++ l)) (drop-drop (length text) at was),
     )

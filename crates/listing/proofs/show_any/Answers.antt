@@ -5,4 +5,4 @@ use Rattle.listing.proofs.show_any.Goals as goal
 
 pub returns-in-Mean : goal.returns-in-Mean
 returns-in-Mean c =
-    kind_shown Mean c.args.bytes.now c.args.out.now c.show-in-Mean.result c.show-in-Mean.new.out (sym c.in-ok-kind-of.ensures ∙ ap Ok c.in-Mean.is) c.show-in-Mean.ensures
+    kind_shown Mean c.args.bytes.now c.args.out.now c.show-in-Mean.result c.show-in-Mean.new.out (sym c.in_ok-kind_of.ensures ∙ ap Ok c.in-Mean.is) c.show-in-Mean.ensures

@@ -4,5 +4,5 @@ use Rattle.rows.proofs.run.Goals as goal
 
 pub unreachable-requires : goal.unreachable-requires
 unreachable-requires g c =
-    let made = c.in-ok-text.ensures.made in
-    false≢true (c.in-default.ensures.fits (omega (arith, made, c.as-mut-slice.ensures.len)))
+    let made = c.in_ok-text.ensures.len in
+    false≢true (c.in_default.ensures.fits (omega (arith, made, c.as_mut_slice.ensures.len)))

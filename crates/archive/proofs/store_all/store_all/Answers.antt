@@ -19,7 +19,7 @@ returns g c =
     record {
       kept = λ w. (c.loop-item.invariant w).0;
       value = value;
-      in-groups = λ width span allowance w is.
+      in_groups = λ width span allowance w is.
           let some : 0 < width = subst (λ n. 0 < n) (ap (λ m. m.width) is) (g.A.Archive.sound a w).some_width in
           value w ∙ ap (λ m. stored_all empty joined m items) is ∙ law_of_archives empty joined width span allowance items some;
     }

@@ -9,7 +9,7 @@ pub returns-in-Some : goal.returns-in-Some
 returns-in-Some c =
     let s = c.args.bytes.now in
     let kind = number_of_kind c.args.kind in
-    let long = unless_ok (length_fault (length s)) _ _ (sym c.check_length.ensures ∙ c.in-ok-check-length.was) in
+    let long = unless_ok (length_fault (length s)) _ _ (sym c.check_length.ensures ∙ c.in_ok-check_length.was) in
     let found = ap (header_fault kind (length s)) (sym c.read_header-header.ensures) ∙ sym c.in-Some.ensures in
     unless_some (front_fault kind s) (header_in s) c.in-Some.fault (or_second (length_fault (length s)) _ long ∙ found)
 
@@ -17,6 +17,6 @@ pub returns-in-None : goal.returns-in-None
 returns-in-None c =
     let s = c.args.bytes.now in
     let kind = number_of_kind c.args.kind in
-    let long = unless_ok (length_fault (length s)) _ _ (sym c.check_length.ensures ∙ c.in-ok-check-length.was) in
+    let long = unless_ok (length_fault (length s)) _ _ (sym c.check_length.ensures ∙ c.in_ok-check_length.was) in
     let found = ap (header_fault kind (length s)) (sym c.read_header-header.ensures) ∙ sym c.in-None.ensures in
     ap Ok c.read_header-header.ensures ∙ sym (ap (λ o. unless o (header_in s)) (or_second (length_fault (length s)) _ long ∙ found))

@@ -18,30 +18,30 @@ of_kind named kind s r same e = e ∙ ap (λ k. unless (front_fault (number_of_k
 header : (named kind : Kind) (s : List ℕ) (h : Header) → named ≡ kind → Ok h ≡ unless (front_fault (number_of_kind named) s) (header_in s) → Accepted (number_of_kind kind) s h
 header named kind s h same e = accepted (number_of_kind kind) s h (of_kind named kind s (Ok h) same e)
 
-pub returns-in-err-header : goal.returns-in-err-header
-returns-in-err-header g c =
+pub returns-in_err-header : goal.returns-in_err-header
+returns-in_err-header g c =
     let s = c.args.bytes.now in
     let kind = g.E.Coded.kind in
-    let p = err_from_is_err_and c.from-residual.result c.from-residual.ensures.1 in
-    rw (p.1, p.2) (refused_front (number_of_kind kind) s g.E.Coded.fault _ (of_kind c.kind.result kind s _ c.kind.ensures c.in-err-header.ensures))
+    let p = err_from_is_err_and c.from_residual.result c.from_residual.ensures.1 in
+    rw (p.1, p.2) (refused_front (number_of_kind kind) s g.E.Coded.fault _ (of_kind c.kind.result kind s _ c.kind.ensures c.in_err-header.ensures))
 
-pub check-row-requires : goal.check-row-requires
-check-row-requires g c =
+pub check_row-requires : goal.check_row-requires
+check_row-requires g c =
     let s = c.args.bytes.now in
     let kind = g.E.Coded.kind in
-    let h = c.in-ok-header.header in
-    row_within (number_of_kind kind) s h c.loop-place.place (header c.kind.result kind s h c.kind.ensures c.in-ok-header.ensures) c.loop-place-test.true
+    let h = c.in_ok-header.header in
+    row_within (number_of_kind kind) s h c.loop-place.place (header c.kind.result kind s h c.kind.ensures c.in_ok-header.ensures) c.loop-place-test.true
 
-pub returns-in-err-check-row : goal.returns-in-err-check-row
-returns-in-err-check-row g c =
+pub returns-in_err-check_row : goal.returns-in_err-check_row
+returns-in_err-check_row g c =
     let s = c.args.bytes.now in
     let kind = g.E.Coded.kind in
-    let h = c.in-ok-header.header in
-    let p = err_from_is_err_and c.from-residual-in-err-check-row.result c.from-residual-in-err-check-row.ensures.1 in
+    let h = c.in_ok-header.header in
+    let p = err_from_is_err_and c.from_residual-in_err-check_row.result c.from_residual-in_err-check_row.ensures.1 in
     rw (p.1, p.2)
     (refused_row (number_of_kind kind) s g.E.Coded.fault h c.loop-place.place _
-    (header c.kind.result kind s h c.kind.ensures c.in-ok-header.ensures) c.loop-place-test.true c.loop-place.invariant (sym c.in-err-check-row.ensures))
+    (header c.kind.result kind s h c.kind.ensures c.in_ok-header.ensures) c.loop-place-test.true c.loop-place.invariant (sym c.in_err-check_row.ensures))
 
 pub loop-place-preserved : goal.loop-place-preserved
 loop-place-preserved g c =
-    earliest_more (bad_element g.E.Coded.fault c.args.bytes.now) c.loop-place.place c.loop-place.invariant (sym c.in-ok-check-row.ensures)
+    earliest_more (bad_element g.E.Coded.fault c.args.bytes.now) c.loop-place.place c.loop-place.invariant (sym c.in_ok-check_row.ensures)

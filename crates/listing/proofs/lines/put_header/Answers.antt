@@ -17,7 +17,7 @@ returns g c opened =
     let held_fits : c.held.result < 2 ^ 32 = search rules in
     let is_kind : c.number.result ≡ (header_in s).kind = c.number.ensures ∙ ap number_of_kind c.kind.ensures ∙ sym (header_sound kind g.E.Coded.fault s opened.sound).of_kind in
     let is_held : c.held.result ≡ (header_in s).held = c.held.ensures opened ∙ sym (length-rows (header_in s) (item_at g.E.Coded.decoded s)) in
-    puts_line c.args.out.now c.put.new.out _ 0 c.in-ok-at.at (codes "image") _ _ _
+    puts_line c.args.out.now c.put.new.out _ 0 c.in_ok-at.at (codes "image") _ _ _
     (λ i. (widened c.number.result number_fits ∙ ap pos is_kind) i ∷ (widened c.span.result span_fits ∙ ap pos (c.span.ensures opened)) i ∷ (widened c.held.result held_fits ∙ ap pos is_held) i ∷ [])
-    c.in-ok-at.ensures
+    c.in_ok-at.ensures
     c.put_ending.ensures

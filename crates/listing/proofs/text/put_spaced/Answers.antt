@@ -9,5 +9,5 @@ returns c =
     let number = signed_decimal c.args.number in
     let fits = c.ranges.number in
     let written = simp to_z-of_z at c.write.ensures in
-    puts_more c.args.out.now c.put.new.out c.write.new.out c.args.at c.in-ok-at.at (32 ∷ []) number c.write.result c.in-ok-at.ensures
-    (puts c.put.new.out c.in-ok-at.at number c.write.result c.write.new.out written)
+    puts_more c.args.out.now c.put.new.out c.write.new.out c.args.at c.in_ok-at.at (32 ∷ []) number c.write.result c.in_ok-at.ensures
+    (puts c.put.new.out c.in_ok-at.at number c.write.result c.write.new.out written)

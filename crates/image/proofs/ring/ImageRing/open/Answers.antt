@@ -8,7 +8,7 @@ use Rattle.image.proofs.ring.ImageRing.open.Goals as goal
 pub returns : goal.returns
 returns g c well =
     let ring = c.args.self.now in
-    let right = c.if-wrong-span.ensures in
+    let right = c.if-wrong_span.ensures in
     let some : 0 < ring.cursor.span = grind (arith, nat_tests) in
     let header = c.of_parts.ensures.header ∙ c.header_of.ensures ∙ ap (λ n. header_of n ring.cursor) (c.number.ensures ∙ ap number_of_kind c.kind.ensures) in
     image_of_ring (number_of_kind g.E.Coded.kind) g.E.Coded.fault g.E.Monoid.empty g.E.Coded.decoded ring c.of_parts.result well some c.of_parts.ensures.bytes header

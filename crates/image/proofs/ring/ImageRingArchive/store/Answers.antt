@@ -19,8 +19,8 @@ returns-then-cursor-eq0 g c =
       bytes = λ well some. absurd (omega arith);
     }
 
-pub returns-then-write-row : goal.returns-then-write-row
-returns-then-write-row g c =
+pub returns-then-write_row : goal.returns-then-write_row
+returns-then-write_row g c =
     let ring = c.args.self.now in
     let s = ring.bytes.now in
     let x = c.args.item in
@@ -32,7 +32,7 @@ returns-then-write-row g c =
     let fault = g.E.Coded.fault in
     let decoded = g.E.Coded.decoded in
     let kind = number_of_kind g.E.Coded.kind in
-    let row = c.if-write-row.ensures in
+    let row = c.if-write_row.ensures in
     let next = c.next-next.ensures in
     let turn = c.write_turn.ensures in
     let some : 0 < ring.cursor.span = omega arith in
@@ -44,13 +44,13 @@ returns-then-write-row g c =
       bytes = λ w more. record_bytes amount weight fault decoded ring.cursor s x t u d row next turn;
     }
 
-pub returns-else-write-row : goal.returns-else-write-row
-returns-else-write-row g c =
+pub returns-else-write_row : goal.returns-else-write_row
+returns-else-write_row g c =
     let ring = c.args.self.now in
     let t = c.write_row.new.bytes in
     let kind = number_of_kind g.E.Coded.kind in
     let some : 0 < ring.cursor.span = omega arith in
-    let never = record_room g.E.Consolidation.amount g.E.Consolidation.weight g.E.Coded.fault g.E.Coded.decoded ring.cursor ring.bytes.now c.args.item t kind some c.if-write-row.ensures in
+    let never = record_room g.E.Consolidation.amount g.E.Consolidation.weight g.E.Coded.fault g.E.Coded.decoded ring.cursor ring.bytes.now c.args.item t kind some c.if-write_row.ensures in
     record {
       kept = λ well. absurd (never well);
       value = λ well. absurd (never well);
