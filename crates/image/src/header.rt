@@ -10,7 +10,8 @@ ghost use Rattle.image.specs.Rings.{header_bytes};
 use crate::fault::ImageFault;
 use crate::number::{read_u32, write_u32};
 use crate::row::ROW;
-use archive::cursor::MOST_ROWS;
+// The most rows that an image can have room for.
+pub use archive::cursor::MOST_ROWS;
 use element::kind::Kind;
 
 // The bytes of a header, which stands before the rows.
