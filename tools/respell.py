@@ -2,6 +2,7 @@
 """Turns the repository's own names to the spelling that this Rattle has: words in snake case, types in camel case.
 
 Run once at the top of the repository, after the kit's port.py: python3 tools/respell.py
+It was run once, for the commit RESPELLED of docs/PORT.md, and is not for what came after: a few names that the prover makes have since gone back.
 It goes over the .rt and .antt files below crates/, gives the crate `bytes`, whose name the kit has a library of, the name `lent_bytes`,
 and changes nothing but names. A dash stays where it joins two names, as in `length-placed`.
 """

@@ -1,4 +1,4 @@
-// The tests of the ends, in a crate of their own: a crate with tests is proved twice, and those above it wait for that.
+// The tests of the ends, in a crate of their own: a crate with tests is proved twice.
 #![tactic(auto)]
 
 #[cfg(test)]
