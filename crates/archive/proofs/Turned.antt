@@ -1,12 +1,12 @@
 -- Archives whose rows lie in a ring of places. Assumes nothing.
-use Rattle.std.proofs.Common.{◌≡◌, ℕ, ◌-◌, ◌<◌, ◌≤◌, cond, ltb, List, [], ◌∷◌, ◌++◌, length, get_or, set, Some, None, sym, ap, ◌∙◌, inl, inr, arith}
+use Rattle.std.proofs.Common.{◌≡◌, ℕ, ◌-◌, ◌<◌, ◌≤◌, List, length, get_or, set, Some, None, sym, ap, ◌∙◌, inl, inr, arith}
 use Rattle.std.specs.Option.{option_map}
-use Rattle.std.proofs.lemmas.List.{nil_from_length, drop_all}
+use Rattle.std.proofs.lemmas.Option.{slice_get-get_or}
 use Rattle.std.proofs.lemmas.Bool.{cases_lt, lt-ltb, le-ltb, cond-true, cond-false}
 use Rattle.consolidation.specs.Laws.{Lawful}
 use Rattle.archive.specs.declared.cursor.Cursor.{Cursor}
 use Rattle.archive.specs.Entries.{Counted}
-use Rattle.archive.specs.Meanings.{newest, stored, asked, ending}
+use Rattle.archive.specs.Meanings.{stored, asked, ending}
 use Rattle.archive.specs.Rings.{Turning, turned_on, ring_rows, age_place}
 use Rattle.archive.proofs.Ending.{stored-ending, asked-ending}
 use Rattle.archive.proofs.Ringing.{place_held, ring_length, ring_stored, ring_aged}
@@ -30,28 +30,21 @@ module _ {M : Type 0} (c : Cursor) (xs : List M) (t : Turning c) where
             ∙ sym (cond-false _ (Some _) None (le-ltb age (length rows) (omega arith)))
       ]
 
-  -- it is read there, and an age that has no place has no row
-  pub ring_found : (empty : M) (counts : Counted M) (age place : ℕ) → c.held ≤ length xs → Some place ≡ age_place c age
-      → cond (ltb place (length xs)) (Some (get_or xs place empty)) None ≡ asked empty counts (ending empty c.span (ring_rows c xs)) age
-  ring_found empty counts age place room at =
-      let held = place_held c age place t (sym at) in
-      cond-true _ (Some (get_or xs place empty)) None (lt-ltb place (length xs) (omega arith))
-      ∙ ap (option_map (λ k. get_or xs k empty)) at
+  -- it is read there
+  pub ring_found : (empty : M) (counts : Counted M) (age place : ℕ) (d : M) → c.held ≤ length xs → age_place c age ≡ Some place
+      → Some (get_or xs place d) ≡ asked empty counts (ending empty c.span (ring_rows c xs)) age
+  ring_found empty counts age place d room at =
+      let held = place_held c age place t at in
+      let found = λ (d : M). slice_get-get_or xs place d (omega arith) in
+      sym (found d) ∙ found empty
+      ∙ ap (option_map (λ k. get_or xs k empty)) (sym at)
       ∙ ring_asked empty counts age room
 
-  pub ring_missing : (empty : M) (counts : Counted M) (age : ℕ) → c.held ≤ length xs → None ≡ age_place c age → None ≡ asked empty counts (ending empty c.span (ring_rows c xs)) age
-  ring_missing empty counts age room at = ap (option_map (λ k. get_or xs k empty)) at ∙ ring_asked empty counts age room
+  -- and an age that has no place has no row
+  pub ring_missing : (empty : M) (counts : Counted M) (age : ℕ) → c.held ≤ length xs → age_place c age ≡ None → None ≡ asked empty counts (ending empty c.span (ring_rows c xs)) age
+  ring_missing empty counts age room at = ap (option_map (λ k. get_or xs k empty)) (sym at) ∙ ring_asked empty counts age room
 
   module _ {empty : M} {joined : M → M → M} (laws : Lawful empty joined) (x : M) where
     -- one place is written
     pub ring_recorded : 0 < c.span → length xs ≡ c.span → ending empty c.span (ring_rows (turned_on c) (set xs c.head x)) ≡ stored empty joined (ending empty c.span (ring_rows c xs)) x
     ring_recorded some size = ap (ending empty c.span) (ring_stored c xs x t some size) ∙ sym (stored-ending laws c.span (ring_rows c xs) x)
-
-    -- a ring of no place holds nothing
-    pub ring_idle : c.span ≤ 0 → ending empty c.span (ring_rows c xs) ≡ stored empty joined (ending empty c.span (ring_rows c xs)) x
-    ring_idle none =
-        let rows = ring_rows c xs in
-        let within = t.within in
-        let no_rows : rows ≡ [] = nil_from_length rows (ring_length c xs (omega arith) ∙ omega arith) in
-        let no_newest : newest c.span (rows ++ x ∷ []) ≡ [] = drop_all (length (rows ++ x ∷ []) - c.span) (rows ++ x ∷ []) (omega arith) in
-        ap (ending empty c.span) (no_rows ∙ sym no_newest) ∙ sym (stored-ending laws c.span rows x)

@@ -5,7 +5,7 @@ ghost use Rattle.archive.specs.Rings.{wrong_span, ring_span, cursor, turned_on, 
 // The most places of a ring.
 pub const MOST_ROWS: u32 = 3_000;
 
-#[derive(Clone, Copy)]
+#[derive(Clone, Copy, PartialEq, Eq, Debug)]
 pub struct Cursor {
     // How many places there are.
     pub span: u32,

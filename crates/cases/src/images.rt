@@ -1,29 +1,24 @@
 // Rows that are written and read back, other kinds, and the numbers of faults.
+use crate::listings::Row;
 use consolidation::item::Item;
 use consolidation::mean::Mean;
 use consolidation::single::{Last, Max, Min};
 use element::coded::{Coded, KindOfPick};
 use element::fault::ElementFault;
-use element::kind::Kind;
+use element::kind::{Kind, UnknownKind};
 use image::fault::{BadElement, ImageFault};
 use image::header::kind_of;
 use image::opened::Image;
-use image::row::write_row;
+use image::row::{NoRow, write_row};
 use std::process::Abort;
 use std::test::Fail;
-
-// The amount, the weight and the two counts of a row.
-type Row = (i64, u32, u32, u32);
 
 // A full ring of two rows that are all zero, the older of them at place 1.
 fn ring(kind: u32) -> [u8; 64] {
     let mut bytes = [0; 64];
-    bytes[0..4].copy_from_slice(&kind.to_le_bytes());
-    bytes[4] = 2;
-    bytes[8] = 2;
-    bytes[12] = 1;
-    bytes[16] = 24;
-    bytes[20] = 64;
+    for (field, number) in bytes.chunks_exact_mut(4).zip([kind, 2, 2, 1, 24, 64]) {
+        field.copy_from_slice(&number.to_le_bytes());
+    }
     bytes
 }
 
@@ -39,20 +34,16 @@ fn reads<E: Coded + Copy>(
     index: u32,
     row: Row,
 ) -> Result<(), Fail> {
-    let item = image.row(index).ok_or("no row")?;
-    let element = item.element;
-    assert_eq!(rt;
-        (element.amount(), element.weight(), item.known, item.of),
-        row
-    );
+    let Item { element, known, of } = image.row(index).ok_or("no row")?;
+    assert_eq!(rt; (element.amount(), element.weight(), known, of), row);
     Ok(())
 }
 
 // Two rows that are written come out, the older first, and nothing past the newer.
 fn reads_back<E: Coded + Copy>(rt: &impl Abort, older: Row, newer: Row) -> Result<(), Fail> {
-    let mut bytes = ring(E::kind().number());
-    assert!(rt; write_row(&mut bytes, 1, item::<E>(older)?));
-    assert!(rt; write_row(&mut bytes, 0, item::<E>(newer)?));
+    let mut bytes = ring(E::KIND.number());
+    write_row(&mut bytes, 1, item::<E>(older)?)?;
+    write_row(&mut bytes, 0, item::<E>(newer)?)?;
     let image = Image::<E>::open(&bytes)?;
     reads(rt, &image, 0, older)?;
     reads(rt, &image, 1, newer)?;
@@ -81,7 +72,7 @@ fn no_row_beyond_the_bytes(rt: HostRuntime) -> Result<(), Fail> {
     let row = item::<Mean>((-1, 2, 3, 4))?;
     for place in [1, 2, u32::MAX] {
         let mut bytes = [7; 63];
-        assert!(rt; !write_row(&mut bytes, place, row));
+        assert_eq!(rt; write_row(&mut bytes, place, row), Err(NoRow));
         assert_eq!(rt; &bytes[..], &[7; 63][..]);
     }
     Ok(())
@@ -90,11 +81,7 @@ fn no_row_beyond_the_bytes(rt: HostRuntime) -> Result<(), Fail> {
 // An image of this kind number opens as `E` only if it is `E`'s.
 fn opens<E: Coded + Copy>(rt: &impl Abort, kind: u32) {
     let bytes = ring(kind);
-    let fault = if kind == E::kind().number() {
-        None
-    } else {
-        Some(ImageFault::Kind)
-    };
+    let fault = (kind != E::KIND.number()).then_some(ImageFault::Kind);
     assert_eq!(rt; Image::<E>::open(&bytes).err(), fault);
 }
 
@@ -117,6 +104,12 @@ fn kinds_are_told(rt: HostRuntime) {
     assert_eq!(rt; kind_of(&ring(4)), Ok(Kind::Mean));
     assert_eq!(rt; kind_of(&ring(5)), Err(ImageFault::Kind));
     assert_eq!(rt; kind_of(&ring(1)[0..23]), Err(ImageFault::Length));
+    assert_eq!(rt; Kind::try_from(0), Err(UnknownKind(0)));
+    assert_eq!(rt; Kind::try_from(1), Ok(Kind::Min));
+    assert_eq!(rt; Kind::try_from(2), Ok(Kind::Max));
+    assert_eq!(rt; Kind::try_from(3), Ok(Kind::Last));
+    assert_eq!(rt; Kind::try_from(4), Ok(Kind::Mean));
+    assert_eq!(rt; Kind::try_from(5), Err(UnknownKind(5)));
 }
 
 #[test]

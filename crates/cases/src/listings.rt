@@ -5,19 +5,20 @@ use std::process::Abort;
 use std::test::Fail;
 
 // The amount, the weight and the two counts of a row.
-type Row = (i64, u32, u32, u32);
+pub(crate) type Row = (i64, u32, u32, u32);
+
+// Numbers of four bytes, one after the other.
+fn push_numbers(bytes: &mut Vec<u8>, numbers: &[u32]) -> Result<(), AllocError> {
+    bytes.extend(numbers.iter().flat_map(|number| number.to_le_bytes()))
+}
 
 // The numbers of a header and rows, with zeros after them up to `len` bytes, or cut at that many.
 fn image(heap: Global, header: &[u32; 6], rows: &[Row], len: usize) -> Result<Vec<u8>, AllocError> {
     let mut bytes = Vec::new(heap);
-    for number in header {
-        bytes.extend_from_slice(&number.to_le_bytes())?;
-    }
+    push_numbers(&mut bytes, header)?;
     for (amount, weight, known, of) in rows {
         bytes.extend_from_slice(&amount.to_le_bytes())?;
-        bytes.extend_from_slice(&weight.to_le_bytes())?;
-        bytes.extend_from_slice(&known.to_le_bytes())?;
-        bytes.extend_from_slice(&of.to_le_bytes())?;
+        push_numbers(&mut bytes, &[*weight, *known, *of])?;
     }
     bytes.resize(len, 0)?;
     Ok(bytes)
@@ -25,13 +26,12 @@ fn image(heap: Global, header: &[u32; 6], rows: &[Row], len: usize) -> Result<Ve
 
 // These bytes, which `what` tells, list as this text, which just fits.
 fn lists(
-    rt: &impl Abort,
-    heap: Global,
+    rt: &(impl Abort + AllocGlobal),
     bytes: &[u8],
     expected: &str,
     what: &str,
 ) -> Result<(), Fail> {
-    let mut text = vec![in heap; 0; expected.len()]?;
+    let mut text = vec![in rt.alloc(); 0; expected.len()]?;
     let end = list(bytes, text.as_mut_slice());
     assert_eq!(rt; end, Some(expected.len()), "{what}");
     assert_eq!(rt; text.as_slice(), expected.as_bytes(), "{what}");
@@ -40,53 +40,50 @@ fn lists(
 
 // Headers, with zeros after them up to a number of bytes, list as these texts.
 fn headers_list(
-    rt: &impl Abort,
-    heap: Global,
+    rt: &(impl Abort + AllocGlobal),
     cases: &[([u32; 6], usize, &str)],
 ) -> Result<(), Fail> {
     for (header, len, expected) in cases {
-        let bytes = image(heap, header, &[], *len)?;
-        let what = format!(in heap; "the header {header:?} of {len} bytes")?;
-        lists(rt, heap, bytes.as_slice(), expected, what.as_str())?;
+        let bytes = image(rt.alloc(), header, &[], *len)?;
+        let what = format!(in rt.alloc(); "the header {header:?} of {len} bytes")?;
+        lists(rt, bytes.as_slice(), expected, what.as_str())?;
     }
     Ok(())
 }
 
 // Headers, with three rows after them, list as these texts.
 fn rows_list(
-    rt: &impl Abort,
-    heap: Global,
+    rt: &(impl Abort + AllocGlobal),
     cases: &[([u32; 6], [Row; 3], &str)],
 ) -> Result<(), Fail> {
     for (header, rows, expected) in cases {
-        let bytes = image(heap, header, rows, 84)?;
-        let what = format!(in heap; "the header {header:?} before {rows:?}")?;
-        lists(rt, heap, bytes.as_slice(), expected, what.as_str())?;
+        let bytes = image(rt.alloc(), header, rows, 84)?;
+        let what = format!(in rt.alloc(); "the header {header:?} before {rows:?}")?;
+        lists(rt, bytes.as_slice(), expected, what.as_str())?;
     }
     Ok(())
 }
 
 // An element that is alone in an image lists as itself, or as its fault.
 fn element_lists(
-    rt: &impl Abort,
-    heap: Global,
+    rt: &(impl Abort + AllocGlobal),
     kind: u32,
     amount: i64,
     weight: u32,
     fault: Option<u32>,
 ) -> Result<(), Fail> {
     let bytes = image(
-        heap,
+        rt.alloc(),
         &[kind, 1, 1, 0, 24, 44],
         &[(amount, weight, 2, 3)],
         44,
     )?;
     let expected = match fault {
-        Some(number) => format!(in heap; "refused 19 24 0 {number}\n")?,
-        None => format!(in heap; "image {kind} 1 1\n{amount} {weight} 2 3\n")?,
+        Some(number) => format!(in rt.alloc(); "refused 19 24 0 {number}\n")?,
+        None => format!(in rt.alloc(); "image {kind} 1 1\n{amount} {weight} 2 3\n")?,
     };
-    let what = format!(in heap; "the element {amount} {weight} of kind {kind}")?;
-    lists(rt, heap, bytes.as_slice(), expected.as_str(), what.as_str())
+    let what = format!(in rt.alloc(); "the element {amount} {weight} of kind {kind}")?;
+    lists(rt, bytes.as_slice(), expected.as_str(), what.as_str())
 }
 
 #[test]
@@ -95,7 +92,6 @@ fn lengths(rt: HostRuntime) -> Result<(), Fail> {
     let most = [3, 3000, 1, 1, 24, 60024];
     headers_list(
         &rt,
-        rt.alloc(),
         &[
             (one, 0, "refused 14 0\n"),
             (one, 23, "refused 14 0\n"),
@@ -114,7 +110,6 @@ fn lengths(rt: HostRuntime) -> Result<(), Fail> {
 fn kinds_and_spans(rt: HostRuntime) -> Result<(), Fail> {
     headers_list(
         &rt,
-        rt.alloc(),
         &[
             ([0, 1, 0, 0, 24, 44], 44, "refused 15 0\n"),
             ([1, 1, 0, 0, 24, 44], 44, "image 1 1 0\n"),
@@ -134,7 +129,6 @@ fn kinds_and_spans(rt: HostRuntime) -> Result<(), Fail> {
 fn held_and_head(rt: HostRuntime) -> Result<(), Fail> {
     headers_list(
         &rt,
-        rt.alloc(),
         &[
             ([3, 2, 3, 0, 24, 64], 64, "refused 17 8\n"),
             ([3, 2, 0, 1, 24, 64], 64, "refused 17 12\n"),
@@ -152,7 +146,6 @@ fn held_and_head(rt: HostRuntime) -> Result<(), Fail> {
 fn offset_and_total(rt: HostRuntime) -> Result<(), Fail> {
     headers_list(
         &rt,
-        rt.alloc(),
         &[
             ([3, 2, 0, 0, 23, 64], 64, "refused 18 16\n"),
             ([3, 2, 0, 0, 25, 64], 64, "refused 18 16\n"),
@@ -169,7 +162,6 @@ fn offset_and_total(rt: HostRuntime) -> Result<(), Fail> {
 fn the_first_fault_answers(rt: HostRuntime) -> Result<(), Fail> {
     headers_list(
         &rt,
-        rt.alloc(),
         &[
             ([5, 0, 3, 9, 23, 0], 23, "refused 14 0\n"),
             ([5, 0, 3, 9, 23, 0], 60025, "refused 14 0\n"),
@@ -189,19 +181,12 @@ fn one_row(rt: HostRuntime) -> Result<(), Fail> {
     let good = image(rt.alloc(), &header, &[(-7, 1, 1, 1)], 44)?;
     lists(
         &rt,
-        rt.alloc(),
         good.as_slice(),
         "image 3 1 1\n-7 1 1 1\n",
         "one good row",
     )?;
     let bad = image(rt.alloc(), &header, &[(-7, 2, 1, 1)], 44)?;
-    lists(
-        &rt,
-        rt.alloc(),
-        bad.as_slice(),
-        "refused 19 24 0 1\n",
-        "one bad row",
-    )
+    lists(&rt, bad.as_slice(), "refused 19 24 0 1\n", "one bad row")
 }
 
 #[test]
@@ -218,11 +203,8 @@ fn the_room_of_a_listing(rt: HostRuntime) -> Result<(), Fail> {
 
 #[test]
 fn the_longest_listing(rt: HostRuntime) -> Result<(), Fail> {
-    let mut bytes = image(rt.alloc(), &[4, 3000, 3000, 0, 24, 60024], &[], 24)?;
-    for _ in 0..3000 {
-        bytes.extend_from_slice(&i64::MIN.to_le_bytes())?;
-        bytes.extend_from_slice(&[255; 12])?;
-    }
+    let rows = [(i64::MIN, u32::MAX, u32::MAX, u32::MAX); 3000];
+    let bytes = image(rt.alloc(), &[4, 3000, 3000, 0, 24, 60024], &rows, 60024)?;
     let mut text = vec![in rt.alloc(); 0; MOST_TEXT]?;
     assert_eq!(rt;
         list(bytes.as_slice(), text.as_mut_slice()),
@@ -242,7 +224,6 @@ fn rows_oldest_first(rt: HostRuntime) -> Result<(), Fail> {
         "image 4 3 3\n-9223372036854775808 4294967295 0 1\n9223372036854775807 0 4294967295 2\n-7 1 1 4294967295\n";
     rows_list(
         &rt,
-        rt.alloc(),
         &[
             ([4, 3, 0, 0, 24, 84], [a, b, c], "image 4 3 0\n"),
             ([4, 3, 2, 2, 24, 84], [a, b, c], two),
@@ -261,7 +242,6 @@ fn the_first_bad_row_answers(rt: HostRuntime) -> Result<(), Fail> {
     let wide = (i64::MAX, 1, 1, 1);
     rows_list(
         &rt,
-        rt.alloc(),
         &[
             (
                 [3, 3, 1, 1, 24, 84],
@@ -304,9 +284,9 @@ fn elements(rt: HostRuntime) -> Result<(), Fail> {
         (-2147483649, 1, Some(3)),
     ] {
         for kind in 1..4 {
-            element_lists(&rt, rt.alloc(), kind, amount, weight, fault)?;
+            element_lists(&rt, kind, amount, weight, fault)?;
         }
-        element_lists(&rt, rt.alloc(), 4, amount, weight, None)?;
+        element_lists(&rt, 4, amount, weight, None)?;
     }
     Ok(())
 }

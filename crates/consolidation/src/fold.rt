@@ -8,9 +8,5 @@ pub fn fold<M: Monoid + Copy>(items: &[M]) -> M
     ensures value { result ≡ fold M.Monoid.joined M.Monoid.empty items.now }
     ensures parts { (xs ys : List M) → items.now ≡ xs ++ ys → result ≡ M.Monoid.joined (fold M.Monoid.joined M.Monoid.empty xs) (fold M.Monoid.joined M.Monoid.empty ys) }
 {
-    let mut all = M::empty();
-    for item in items {
-        all = all.join(*item);
-    }
-    all
+    items.iter().copied().fold(M::empty(), M::join)
 }

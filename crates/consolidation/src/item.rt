@@ -5,7 +5,7 @@ ghost use Rattle.consolidation.specs.ItemsLemmas.{item_lawful};
 
 use crate::monoid::Monoid;
 
-#[derive(Clone, Copy)]
+#[derive(Clone, Copy, PartialEq, Eq, Debug)]
 pub struct Item<E> {
     pub element: E,
     // How many of the points are known, modulo 2 ^ 32.
@@ -29,6 +29,7 @@ impl<E: Monoid> Monoid for Item<E> {
         }
     }
 
+    #[tactic(auto, using(crate::specs::SumsLemmas::sum32_fits))]
     fn join(self, later: Item<E>) -> Item<E>
         ensures joined { result ≡ item_joined E.Monoid.joined self later }
         ensures known { result.known ≡ (self.known + later.known) % 2 ^ 32 }

@@ -7,7 +7,7 @@ ghost use Rattle.consolidation.specs.MeansLemmas.{mean_lawful, mean_instant, mea
 use crate::consolidation::Consolidation;
 use crate::monoid::Monoid;
 
-#[derive(Clone, Copy)]
+#[derive(Clone, Copy, PartialEq, Eq, Debug)]
 pub struct Mean {
     pub amount: i64,
     pub weight: u32,
@@ -27,6 +27,7 @@ impl Monoid for Mean {
         }
     }
 
+    #[tactic(auto, using(std::proofs::lemmas::Int::wrapping_add_is, crate::specs::SumsLemmas::sum32_fits, crate::specs::SumsLemmas::sum64_fits))]
     fn join(self, later: Mean) -> Mean
         ensures joined { result ≡ mean_joined self later }
         ensures amount { result.amount ≡ int_wrap w64 (self.amount +ℤ later.amount) }
@@ -50,6 +51,7 @@ impl Consolidation for Mean {
 
     ghost cut = { mean_cut };
 
+    #[tactic(auto, using(crate::specs::MeansLemmas::products))]
     fn hold(reading: i32, seconds: u32) -> Mean
         ensures held { result ≡ mean_held reading seconds }
         ensures amount { result.amount ≡ reading *ℤ pos seconds }

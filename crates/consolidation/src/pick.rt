@@ -15,7 +15,7 @@ pub trait Pick {
     ghost same: { (a : ℤ) → picked a a ≡ a };
 }
 
-#[derive(Clone, Copy)]
+#[derive(Clone, Copy, PartialEq, Eq, Debug)]
 pub struct Least;
 
 impl Pick for Least {
@@ -30,7 +30,7 @@ impl Pick for Least {
     }
 }
 
-#[derive(Clone, Copy)]
+#[derive(Clone, Copy, PartialEq, Eq, Debug)]
 pub struct Greatest;
 
 impl Pick for Greatest {
@@ -45,7 +45,7 @@ impl Pick for Greatest {
     }
 }
 
-#[derive(Clone, Copy)]
+#[derive(Clone, Copy, PartialEq, Eq, Debug)]
 pub struct Latest;
 
 impl Pick for Latest {

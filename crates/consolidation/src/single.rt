@@ -9,7 +9,7 @@ use crate::pick::{Greatest, Latest, Least, Pick};
 use std::marker::PhantomData;
 
 // One reading or none; of two readings, `P` picks.
-#[derive_where(Clone, Copy)]
+#[derive_where(Clone, Copy, PartialEq, Eq, Debug)]
 pub struct Single<P> {
     reading: Option<i32>,
     pick: PhantomData<P>,
@@ -62,20 +62,14 @@ impl<P: Pick> Consolidation for Single<P> {
     ghost cut = { Prim.search rules };
 
     fn hold(reading: i32, seconds: u32) -> Single<P> {
-        of(if seconds > 0 { Some(reading) } else { None })
+        of((seconds > 0).then_some(reading))
     }
 
     fn amount(self) -> i64 {
-        match self.reading {
-            Some(reading) => reading as i64,
-            None => 0,
-        }
+        self.reading.map_or(0, i64::from)
     }
 
     fn weight(self) -> u32 {
-        match self.reading {
-            Some(_) => 1,
-            None => 0,
-        }
+        u32::from(self.reading.is_some())
     }
 }

@@ -1,11 +1,13 @@
-// Writes a number in decimal into bytes that are lent.
+// Writes a number in decimal into bytes that are lent, or at the end of a text.
 #![tactic(auto)]
 
 ghost use Rattle.std.specs.Prelude.{◌≡◌, ◌+◌, length, drop, decimal};
 ghost use Rattle.lent_bytes.specs.Placed.{Writes};
+ghost use Rattle.lent_bytes.specs.Texts.{Adds};
 ghost use Rattle.std.specs.Fmt.{signed_decimal};
 
 use lent_bytes::put;
+use lent_bytes::text::{Full, Text};
 
 // The most bytes that an `i64` takes, a sign and nineteen digits; a `u64` takes no more.
 const LONGEST: usize = 20;
@@ -15,16 +17,16 @@ fn spell_digits(scratch: &mut [u8; LONGEST], value: u64) -> usize
     ensures text { drop result scratch.new ≡ decimal value }
     ensures start { result + length (decimal value) ≡ 20 }
 {
-    let mut start = LONGEST;
     let mut rest = value;
-    loop {
-        start -= 1;
+    for start in (0..LONGEST).rev() {
         scratch[start] = b'0' + (rest % 10) as u8;
         rest /= 10;
         if rest == 0 {
             return start;
         }
     }
+    // Twenty digits suffice.
+    unreachable!()
 }
 
 // The same, with a sign before the digits of a number below 0.
@@ -48,6 +50,15 @@ pub fn write(out: &mut [u8], at: usize, value: i64) -> Option<usize>
     let mut scratch = [0; LONGEST];
     let start = spell(&mut scratch, value);
     put(out, at, &scratch[start..])
+}
+
+// The same at the end of a text.
+pub fn add(text: &mut Text, value: i64) -> Result<(), Full>
+    ensures { Adds text.old (signed_decimal value) result text.new }
+{
+    let mut scratch = [0; LONGEST];
+    let start = spell(&mut scratch, value);
+    text.put(&scratch[start..])
 }
 
 #[cfg(test)]

@@ -26,3 +26,14 @@ fn no_room(rt: HostRuntime) {
     assert_eq!(rt; write(&mut out, usize::MAX, 0), None);
     assert_eq!(rt; &out[..], b"...".as_slice());
 }
+
+#[test]
+fn added_to_a_text(rt: HostRuntime) {
+    let mut out = [b'.'; 23];
+    let mut text = Text::new(&mut out);
+    assert_eq!(rt; add(&mut text, i64::MIN), Ok(()));
+    assert_eq!(rt; add(&mut text, 0), Ok(()));
+    assert_eq!(rt; add(&mut text, -10), Err(Full));
+    assert_eq!(rt; text.end(), 21);
+    assert_eq!(rt; &out[..], b"-92233720368547758080..".as_slice());
+}

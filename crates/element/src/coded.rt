@@ -17,16 +17,15 @@ use consolidation::pick::{Greatest, Latest, Least, Pick};
 use consolidation::single::Single;
 
 pub trait Coded: Consolidation {
-    ghost kind: { Kind };
+    ghost KIND: { Kind };
+
+    const KIND: Kind;
 
     // What is wrong with an amount and a weight, if anything is.
     ghost fault: { ℤ → ℕ → Option ElementFault };
 
     // The element that they stand for, where nothing is.
     ghost decoded: { ℤ → ℕ → Self };
-
-    fn kind() -> Kind
-        ensures { result ≡ kind };
 
     fn decode(amount: i64, weight: u32) -> Result<Self, ElementFault>
         ensures { result ≡ unless (fault amount weight) (decoded amount weight) };
@@ -42,48 +41,39 @@ pub trait Coded: Consolidation {
 
 // The kind of the consolidation that picks so.
 pub trait KindOfPick: Pick {
-    ghost kind: { Kind };
+    ghost KIND: { Kind };
 
-    fn kind() -> Kind
-        ensures { result ≡ kind };
+    const KIND: Kind;
 }
 
 impl KindOfPick for Least {
-    ghost kind = { OfMin };
+    ghost KIND = { OfMin };
 
-    fn kind() -> Kind {
-        Kind::Min
-    }
+    const KIND: Kind = Kind::Min;
 }
 
 impl KindOfPick for Greatest {
-    ghost kind = { OfMax };
+    ghost KIND = { OfMax };
 
-    fn kind() -> Kind {
-        Kind::Max
-    }
+    const KIND: Kind = Kind::Max;
 }
 
 impl KindOfPick for Latest {
-    ghost kind = { OfLast };
+    ghost KIND = { OfLast };
 
-    fn kind() -> Kind {
-        Kind::Last
-    }
+    const KIND: Kind = Kind::Last;
 }
 
 impl<P: KindOfPick> Coded for Single<P> {
-    ghost kind = { P.KindOfPick.kind };
+    ghost KIND = { P.KindOfPick.KIND };
+
+    const KIND: Kind = P::KIND;
 
     ghost fault = { single_fault };
 
     ghost decoded = { λ a w. single (reading_over a w) };
 
     ghost told = { Prim.search rules };
-
-    fn kind() -> Kind {
-        P::kind()
-    }
 
     fn decode(amount: i64, weight: u32) -> Result<Single<P>, ElementFault> {
         if weight > 1 {
@@ -92,10 +82,8 @@ impl<P: KindOfPick> Coded for Single<P> {
         if weight == 0 && amount != 0 {
             return Err(ElementFault::AmountWithoutWeight);
         }
-        match i32::try_from(amount) {
-            Ok(reading) => Ok(Single::hold(reading, weight)),
-            Err(_) => Err(ElementFault::AmountTooWide),
-        }
+        let reading = i32::try_from(amount).map_err(|_| ElementFault::AmountTooWide)?;
+        Ok(Single::hold(reading, weight))
     }
 
     fn encode(self) -> (i64, u32) {
@@ -104,17 +92,15 @@ impl<P: KindOfPick> Coded for Single<P> {
 }
 
 impl Coded for Mean {
-    ghost kind = { OfMean };
+    ghost KIND = { OfMean };
+
+    const KIND: Kind = Kind::Mean;
 
     ghost fault = { λ _ _. None };
 
     ghost decoded = { mean };
 
     ghost told = { Prim.search rules };
-
-    fn kind() -> Kind {
-        Kind::Mean
-    }
 
     fn decode(amount: i64, weight: u32) -> Result<Mean, ElementFault> {
         Ok(Mean { amount, weight })

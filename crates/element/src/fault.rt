@@ -2,23 +2,19 @@
 ghost use Rattle.std.specs.Prelude.{◌≡◌};
 ghost use Rattle.element.specs.Faults.{number_of_element_fault};
 
-// What is wrong with the amount and the weight of a row.
+// What is wrong with the amount and the weight of a row; each has its number in a refusal.
 #[derive(Clone, Copy, PartialEq, Eq, Debug)]
 pub enum ElementFault {
-    WeightAboveOne,
-    AmountWithoutWeight,
+    WeightAboveOne = 1,
+    AmountWithoutWeight = 2,
     // The amount is no signed number of 32 bits.
-    AmountTooWide,
+    AmountTooWide = 3,
 }
 
 impl ElementFault {
     pub fn number(self) -> u32
         ensures { result ≡ number_of_element_fault self }
     {
-        match self {
-            ElementFault::WeightAboveOne => 1,
-            ElementFault::AmountWithoutWeight => 2,
-            ElementFault::AmountTooWide => 3,
-        }
+        self as u32
     }
 }

@@ -1,13 +1,14 @@
 // The consolidations that an image can be of.
 ghost use Rattle.std.specs.Prelude.{◌≡◌};
-ghost use Rattle.element.specs.Kinds.{number_of_kind, kind_numbered};
+ghost use Rattle.element.specs.Kinds.{number_of_kind, Numbers};
 
+// Each has the number by which an image names it.
 #[derive(Clone, Copy, PartialEq, Eq, Debug)]
 pub enum Kind {
-    Min,
-    Max,
-    Last,
-    Mean,
+    Min = 1,
+    Max = 2,
+    Last = 3,
+    Mean = 4,
 }
 
 impl Kind {
@@ -15,24 +16,26 @@ impl Kind {
     pub fn number(self) -> u32
         ensures { result ≡ number_of_kind self }
     {
-        match self {
-            Kind::Min => 1,
-            Kind::Max => 2,
-            Kind::Last => 3,
-            Kind::Mean => 4,
-        }
+        self as u32
     }
+}
 
-    // The kind with a number, if there is one.
-    pub fn numbered(number: u32) -> Option<Kind>
-        ensures { result ≡ kind_numbered number }
-    {
+// A number that is no kind's.
+#[derive(Clone, Copy, PartialEq, Eq, Debug)]
+pub struct UnknownKind(pub u32);
+
+impl TryFrom<u32> for Kind {
+    type Error = UnknownKind;
+
+    ghost try_from_gives = { Numbers };
+
+    fn try_from(number: u32) -> Result<Kind, UnknownKind> {
         match number {
-            1 => Some(Kind::Min),
-            2 => Some(Kind::Max),
-            3 => Some(Kind::Last),
-            4 => Some(Kind::Mean),
-            _ => None,
+            1 => Ok(Kind::Min),
+            2 => Ok(Kind::Max),
+            3 => Ok(Kind::Last),
+            4 => Ok(Kind::Mean),
+            _ => Err(UnknownKind(number)),
         }
     }
 }

@@ -1,13 +1,13 @@
 // Figures that were worked by hand, each from the definitions and from the code.
 #![tactic(auto)]
 
-ghost use Rattle.std.specs.Prelude.{◌≡◌, pos, negsuc, Some};
+ghost use Rattle.std.specs.Prelude.{◌≡◌, replicate, pos, negsuc, Some};
 ghost use Rattle.archive.specs.Entries.{item_counts, shown};
 ghost use Rattle.consolidation.specs.Items.{item};
 ghost use Rattle.consolidation.specs.Means.{mean, mean_held};
 ghost use Rattle.consolidation.specs.Singles.{single};
-ghost use Rattle.figures.specs.Towers.{FiveOverTwelve};
-ghost use Rattle.figures.specs.Worked.{Figures};
+ghost use Rattle.archive.specs.Meanings.{stored_all};
+ghost use Rattle.figures.specs.Worked.{none, joined, tower, point, Figures};
 
 use archive::archive::Archive;
 use archive::store_all::store_all;
@@ -21,7 +21,7 @@ use layers::coarsen::Coarsen;
 use rings::latest::LatestRow;
 
 // What the code makes of the figures.
-#[derive(Clone, Copy)]
+#[derive(Clone, Copy, PartialEq, Eq, Debug)]
 pub struct Made {
     // −3 held for 4 seconds.
     pub held: Mean,
@@ -55,7 +55,7 @@ fn at_half(known: u32) -> Option<Item<Mean>>
 
 // 5 over 12 over an archive of one row, after 61 points with 7 for a minute.
 fn five_over_twelve() -> Coarsen<Coarsen<LatestRow<Mean>>>
-    ensures { FiveOverTwelve result }
+    ensures { ⟦<Coarsen<Coarsen<LatestRow<Mean>>> as Archive>⟧.meaning result ≡ stored_all none joined tower (replicate 61 point) }
 {
     let mut tower = Coarsen::new(Coarsen::new(LatestRow::new(), 12), 5);
     let point = Item {

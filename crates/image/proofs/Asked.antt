@@ -1,6 +1,7 @@
 -- The row of an age, in the bytes of a ring and in an image. Assumes nothing.
 use Rattle.std.proofs.Common.{◌≡◌, ℕ, ◌+◌, ◌-◌, ◌<◌, ◌≤◌, List, length, get_or, ℤ, Some, None, Option, sym, ap, ◌∙◌, arith}
-use Rattle.std.specs.Option.{option_map}
+use Rattle.std.specs.List.{slice_get}
+use Rattle.std.proofs.lemmas.Option.{slice_get-get_or}
 use Rattle.std.specs.Result.{result_ok}
 use Rattle.std.proofs.lemmas.List.FromFn.{length-map-range_with_len, get_or-map-range_with_len}
 use Rattle.archive.specs.Entries.{Counted, empty_item, item_counts}
@@ -9,21 +10,19 @@ use Rattle.archive.specs.Rings.{age_place}
 use Rattle.archive.specs.declared.cursor.Cursor.{Cursor}
 use Rattle.archive.proofs.Ending.{asked-ending}
 use Rattle.archive.proofs.Ringing.{place_held}
-use Rattle.archive.proofs.Turned.{ring_asked, ring_missing}
+use Rattle.archive.proofs.Turned.{ring_found, ring_missing}
 use Rattle.consolidation.specs.declared.item.Item.{Item}
 use Rattle.element.specs.declared.fault.ElementFault.{ElementFault}
 use Rattle.element.specs.Faults.{unless}
-use Rattle.image.specs.Images.{nth}
 use Rattle.image.specs.Rings.{slots, meaning_of, Kept}
 use Rattle.image.specs.Rows.{row_start, fault_at, item_at}
-use Rattle.image.proofs.Places.{nth_within}
 use Rattle.image.proofs.Shown.{kept_long}
 
 -- in a list of rows
-pub asked_nth : {M : Type 0} (empty : M) (counts : Counted M) (span : ℕ) (rows : List M) (held age : ℕ) → held ≡ length rows → age < held → nth rows (held - 1 - age) ≡ asked empty counts (ending empty span rows) age
-asked_nth empty counts span rows held age is young =
+pub asked_index : {M : Type 0} (empty : M) (counts : Counted M) (span : ℕ) (rows : List M) (held age : ℕ) → held ≡ length rows → age < held → slice_get rows (held - 1 - age) ≡ asked empty counts (ending empty span rows) age
+asked_index empty counts span rows held age is young =
     let within : held - 1 - age < length rows = omega arith in
-    sym (nth_within rows (held - 1 - age) empty within)
+    slice_get-get_or rows (held - 1 - age) empty within
     ∙ ap (λ n. Some (get_or rows (n - 1 - age) empty)) is
     ∙ sym (asked-ending empty counts span rows age (omega arith))
 
@@ -40,12 +39,12 @@ module _ (kind : ℕ) (fault : ℤ → ℕ → Option ElementFault) (c : Cursor)
       let size = all in
       omega arith
 
-  pub asked_none : None ≡ age_place c age → None ≡ asked (empty_item empty) (item_counts empty) (meaning_of empty decoded c s) age
+  pub asked_none : age_place c age ≡ None → None ≡ asked (empty_item empty) (item_counts empty) (meaning_of empty decoded c s) age
   asked_none = ring_missing c places w.turning (empty_item empty) (item_counts empty) age room
 
-  module _ (place : ℕ) (there : Some place ≡ age_place c age) where
+  module _ (place : ℕ) (there : age_place c age ≡ Some place) where
     held : place < c.held
-    held = place_held c age place w.turning (sym there)
+    held = place_held c age place w.turning there
 
     pub asked_room : row_start place + 20 ≤ length s
     asked_room =
@@ -60,5 +59,4 @@ module _ (kind : ℕ) (fault : ℤ → ℕ → Option ElementFault) (c : Cursor)
         let within = w.turning.within in
         ap (λ o. result_ok (unless o (item_at decoded s place))) (w.elements place held)
         ∙ ap Some (sym (get_or-map-range_with_len (item_at decoded s) 0 c.span place place (empty_item empty) (omega arith) (omega arith)))
-        ∙ ap (option_map (λ place. get_or places place (empty_item empty))) there
-        ∙ ring_asked c places w.turning (empty_item empty) (item_counts empty) age room
+        ∙ ring_found c places w.turning (empty_item empty) (item_counts empty) age place (empty_item empty) room there

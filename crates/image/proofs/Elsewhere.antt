@@ -6,6 +6,7 @@ use Rattle.consolidation.specs.Items.{item}
 use Rattle.element.specs.declared.fault.ElementFault.{ElementFault}
 use Rattle.image.specs.Headers.{header_in}
 use Rattle.image.specs.Numbers.{le32}
+use Rattle.image.proofs.Numbers.{le32_same}
 use Rattle.image.specs.Rows.{row_start, amount_at, weight_at, known_at, of_at, fault_at, item_at}
 
 -- two lists have the same bytes, from one place up to another
@@ -20,12 +21,7 @@ alike_after s at text from end room after k h l = get_or-placed_after s at k tex
 
 module _ (s t : List ℕ) where
   pub le32_alike : (at from end : ℕ) → Alike s t from end → from ≤ at → at + 4 ≤ end → le32 t at ≡ le32 s at
-  le32_alike at from end same first last =
-      let a = same at first (omega arith) in
-      let b = same (at + 1) (omega arith) (omega arith) in
-      let c = same (at + 2) (omega arith) (omega arith) in
-      let d = same (at + 3) (omega arith) (omega arith) in
-      λ i. a i + b i * 256 + c i * 65536 + d i * 16777216
+  le32_alike at from end same first last = le32_same t s at at (λ m h. same (at + m) (omega arith) (omega arith))
 
   pub header_alike : Alike s t 0 24 → header_in t ≡ header_in s
   header_alike same =

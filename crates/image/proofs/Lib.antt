@@ -4,7 +4,7 @@ pub mod Faults
 pub mod Headed
 pub mod Headers
 pub mod Images
-pub mod Made
+pub mod Left
 pub mod Numbers
 pub mod Places
 pub mod Reading

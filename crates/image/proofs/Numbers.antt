@@ -1,24 +1,45 @@
 -- Numbers that are written and read again. Assumes nothing.
-use Rattle.std.proofs.Common.{◌≡◌, ℕ, ◌+◌, ◌*◌, ◌/◌, ◌%◌, ◌^◌, ◌<◌, ◌≤◌, List, length, get_or, sym, ap, ◌∙◌, mod-eq_of_lt, arith}
-use native.Mathlib.Nat.{div-div-eq-div-mul}
-use Rattle.std.proofs.lemmas.Nat.{div-add-mod', div_below}
+use Rattle.std.proofs.Common.{◌≡◌, ℕ, ◌+◌, ◌*◌, ◌<◌, ◌≤◌, List, [], ◌∷◌, ◌++◌, length, take, drop, w32, w64, get_or, refl, add-zero, add_assoc, sym, ap, ◌∙◌, arith}
+use Rattle.std.specs.Int.{from_le_bytes, to_le_bytes}
+use Rattle.std.specs.List.{flat_map}
+use Rattle.std.proofs.lemmas.List.{take_more, get_or-take, get_or-drop}
+use Rattle.std.proofs.lemmas.List.Concat.{flat_map-append}
 use Rattle.lent_bytes.specs.Placed.{placed}
 use Rattle.lent_bytes.proofs.Placing.{get_or-placed}
-use Rattle.image.specs.Numbers.{le32}
+use Rattle.image.specs.Numbers.{le32, le64, bytes32, bytes64}
+
+-- the same four bytes are the same number
+pub le32_same : (s t : List ℕ) (i j : ℕ) → ((m : ℕ) → m < 4 → get_or s (i + m) 0 ≡ get_or t (j + m) 0) → le32 s i ≡ le32 t j
+le32_same s t i j same =
+    let first = simp add-zero at (same 0 (omega arith)) in
+    λ k. first k + same 1 (omega arith) k * 256 + same 2 (omega arith) k * 65536 + same 3 (omega arith) k * 16777216
 
 -- a number of a text that was placed
 pub le32_placed : (s : List ℕ) (at j : ℕ) (text : List ℕ) → at ≤ length s → j + 4 ≤ length text → le32 (placed s at text) (at + j) ≡ le32 text j
 le32_placed s at j text room inside =
-    let t = placed s at text in
-    let here : (m : ℕ) → m < 4 → get_or t (at + j + m) 0 ≡ get_or text (j + m) 0 =
-    λ m h. ap (λ k. get_or t k 0) (let e : at + j + m ≡ at + (j + m) = omega arith in e) ∙ get_or-placed s at (j + m) text room (omega arith) in
-    λ i. get_or-placed s at j text room (let h : j < length text = omega arith in h) i + here 1 (omega arith) i * 256 + here 2 (omega arith) i * 65536 + here 3 (omega arith) i * 16777216
+    le32_same (placed s at text) text (at + j) j
+    (λ m h. ap (λ k. get_or (placed s at text) k 0) (add_assoc at j m) ∙ get_or-placed s at (j + m) text room (omega arith))
 
--- the four bytes of a number write it
-pub bytes32_write : (n : ℕ) → n < 2 ^ 32 → n % 256 + n / 256 % 256 * 256 + n / 65536 % 256 * 65536 + n / 16777216 % 256 * 16777216 ≡ n
-bytes32_write n h =
-    let one = div-add-mod' n 256 in
-    let two : n / 65536 * 256 + n / 256 % 256 ≡ n / 256 = ap (λ q. q * 256 + n / 256 % 256) (sym (div-div-eq-div-mul n 256 256)) ∙ div-add-mod' (n / 256) 256 in
-    let three : n / 16777216 * 256 + n / 65536 % 256 ≡ n / 65536 = ap (λ q. q * 256 + n / 65536 % 256) (sym (div-div-eq-div-mul n 65536 256)) ∙ div-add-mod' (n / 65536) 256 in
-    let four : n / 16777216 % 256 ≡ n / 16777216 = mod-eq_of_lt (div_below n 16777216 256 (omega arith) h) in
-    omega arith
+-- a number of a part
+le32_part : (s : List ℕ) (at j n : ℕ) → j + 4 ≤ n → le32 (take n (drop at s)) j ≡ le32 s (at + j)
+le32_part s at j n inside =
+    le32_same (take n (drop at s)) s j (at + j)
+    (λ m h. get_or-take n (drop at s) (j + m) 0 (omega arith) ∙ get_or-drop at s (j + m) 0 ∙ ap (λ k. get_or s k 0) (sym (add_assoc at j m)))
+
+-- numbers one after the other, and one more
+pub length-bytes : (ns : List ℕ) → length (flat_map bytes32 ns) ≡ 4 * length ns
+length-bytes [] = refl
+length-bytes (n ∷ ns) = omega (arith, length-bytes ns)
+
+pub bytes_more : (ns : List ℕ) (k : ℕ) → k < length ns → flat_map bytes32 (take k ns) ++ bytes32 (get_or ns k 0) ≡ flat_map bytes32 (take (k + 1) ns)
+bytes_more ns k inside = sym (ap (flat_map bytes32) (take_more ns k 0 inside) ∙ flat_map-append bytes32 (take k ns) (get_or ns k 0 ∷ []))
+
+-- the number in its field
+pub le32_field : (s : List ℕ) (at : ℕ) → from_le_bytes w32 (take 4 (drop at s)) ≡ le32 s at
+le32_field s at = le32_part s at 0 4 (omega arith) ∙ ap (le32 s) (add-zero at)
+
+pub le64_field : (s : List ℕ) (at : ℕ) → from_le_bytes w64 (take 8 (drop at s)) ≡ le64 s at
+le64_field s at = omega (arith, le32_part s at 0 8 (omega arith) ∙ ap (le32 s) (add-zero at), le32_part s at 4 8 (omega arith))
+
+pub bytes64_le : (n : ℕ) → to_le_bytes w64 n ≡ bytes64 n
+bytes64_le n = grind arith

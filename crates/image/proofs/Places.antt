@@ -1,22 +1,12 @@
 -- Where the rows of an image stand. Assumes nothing.
-use Rattle.std.proofs.Common.{◌≡◌, ℕ, zero, suc, ◌+◌, ◌-◌, ◌<◌, ◌≤◌, ltb, List, [], ◌∷◌, map, length, get_or, drop, Some, None, sym, refl, ap, ◌∙◌, ⊎_elim, arith}
-use Rattle.std.specs.List.{range_with_len}
+use Rattle.std.proofs.Common.{◌≡◌, ℕ, ◌+◌, ◌-◌, ◌<◌, ◌≤◌, ltb, List, map, length, get_or, drop, Some, sym, ap, ◌∙◌, ⊎_elim, arith}
+use Rattle.std.specs.List.{range_with_len, slice_get}
+use Rattle.std.proofs.lemmas.Option.{slice_get-get_or}
 use Rattle.std.proofs.lemmas.List.FromFn.{length-range_with_len, get_or-range_with_len}
 use Rattle.std.proofs.lemmas.List.{length-append, length-drop, length-take, length-map, get_or_append_left, get_or-append_right, get_or-drop, get_or-take, get_or-map}
 use Rattle.std.proofs.lemmas.Bool.{cases_lt, cond-true, cond-false, lt-ltb, le-ltb}
 use Rattle.image.specs.declared.header.Header.{Header}
-use Rattle.image.specs.Images.{places, place_of, nth}
-
-module _ {X : Type 0} where
-  pub nth_past : (xs : List X) (i : ℕ) → length xs ≤ i → None ≡ nth xs i
-  nth_past [] i h = refl
-  nth_past (x ∷ xs) zero h = absurd (omega arith)
-  nth_past (x ∷ xs) (suc i) h = nth_past xs i (omega arith)
-
-  pub nth_within : (xs : List X) (i : ℕ) (d : X) → i < length xs → Some (get_or xs i d) ≡ nth xs i
-  nth_within [] i d h = absurd (omega arith)
-  nth_within (x ∷ xs) zero d h = refl
-  nth_within (x ∷ xs) (suc i) d h = nth_within xs i d (omega arith)
+use Rattle.image.specs.Images.{places, place_of}
 
 module _ (h : Header) where
   abbrev all : List ℕ
@@ -48,9 +38,9 @@ module _ (h : Header) where
     length-rows = sym (length-map (places h) row ∙ length-places)
 
     -- the row of an index
-    pub nth-rows : (i : ℕ) → h.head ≤ h.held → i < h.held → Some (row (place_of h.head h.held i)) ≡ nth (map row (places h)) i
+    pub nth-rows : (i : ℕ) → h.head ≤ h.held → i < h.held → Some (row (place_of h.head h.held i)) ≡ slice_get (map row (places h)) i
     nth-rows i within held =
         let inside : i < length (places h) = omega (arith, length-places) in
         ap (λ p. Some (row p)) (sym (get_or-places i within held))
         ∙ ap Some (sym (get_or-map row (places h) i 0 (row 0) inside))
-        ∙ nth_within (map row (places h)) i (row 0) (omega (arith, length-map (places h) row))
+        ∙ sym (slice_get-get_or (map row (places h)) i (row 0) (omega (arith, length-map (places h) row)))

@@ -1,16 +1,16 @@
 -- What is read of an opened image. Assumes nothing.
 use Rattle.std.proofs.Common.{◌≡◌, ℕ, ◌+◌, ◌<◌, ◌≤◌, List, length, get_or, ℤ, Some, None, Option, sym, ap, ◌∙◌, subst, ⊎_elim, arith}
+use Rattle.std.specs.List.{slice_get}
 use Rattle.std.specs.Result.{result_ok}
 use Rattle.std.proofs.lemmas.Bool.{cases_lt}
 use Rattle.std.proofs.lemmas.Bool.Decides.{nat_tests as tells}
-use Rattle.consolidation.specs.declared.item.Item.{Item}
 use Rattle.element.specs.declared.fault.ElementFault.{ElementFault}
 use Rattle.image.specs.declared.header.Header.{Header}
 use Rattle.element.specs.Faults.{unless}
 use Rattle.image.specs.Faults.{earliest}
 use Rattle.image.specs.Headers.{header_in, front_fault, Sound}
-use Rattle.image.specs.Images.{bad_element, image_fault, place_of, places, rows_in, nth}
-use Rattle.image.specs.Rows.{row_start, amount_at, weight_at, known_at, of_at, fault_at, item_at}
+use Rattle.image.specs.Images.{bad_element, image_fault, place_of, places, rows_in}
+use Rattle.image.specs.Rows.{row_start, fault_at, item_at}
 use Rattle.image.proofs.Faults.{mapped_none, or_none, earliest_none}
 use Rattle.image.proofs.Headers.{front_sound}
 use Rattle.image.proofs.Places.{get_or-places, nth-rows}
@@ -44,7 +44,7 @@ module _ (kind : ℕ) (fault : ℤ → ℕ → Option ElementFault) (s : List �
 
   -- and is read at its place
   pub row_read : {E : Type 0} (decoded : ℤ → ℕ → E) (index place : ℕ) → index < (header_in s).held → place ≡ place_of (header_in s).head (header_in s).held index
-      → result_ok (unless (fault_at fault s place) (item_at decoded s place)) ≡ nth (rows_in decoded s) index
+      → result_ok (unless (fault_at fault s place) (item_at decoded s place)) ≡ slice_get (rows_in decoded s) index
   row_read decoded index place held is =
       let h = header_in s in
       let within = head_within kind (length s) h header_sound in
@@ -53,34 +53,9 @@ module _ (kind : ℕ) (fault : ℤ → ℕ → Option ElementFault) (s : List �
       ∙ ap (λ p. Some (item_at decoded s p)) is
       ∙ nth-rows h (item_at decoded s) index within held
 
-  -- an element tells the amount and the weight that it was decoded from
-  module _ {E : Type 0} (decoded : ℤ → ℕ → E) (amount : E → ℤ) (weight : E → ℕ) (told : (a : ℤ) (w : ℕ) → fault a w ≡ None → (amount (decoded a w) ≡ a) × (weight (decoded a w) ≡ w)) where
-    -- so the row of an index tells the four numbers at its place
-    pub record Tells (place : ℕ) (x : Item E) : Type 0 where
-      pub its_amount : amount x.element ≡ amount_at s place
-      pub its_weight : weight x.element ≡ weight_at s place
-      pub its_known : x.known ≡ known_at s place
-      pub its_of : x.of ≡ of_at s place
-
-    pub row_tells : (index : ℕ) (x : Item E) → index < (header_in s).held → Some x ≡ nth (rows_in decoded s) index → Tells (get_or (places (header_in s)) index 0) x
-    row_tells index x held is =
-        let h = header_in s in
-        let within = head_within kind (length s) h header_sound in
-        let place = place_of h.head h.held index in
-        let tells = told (amount_at s place) (weight_at s place) (row_sound place (place_held h.head h.held index within held)) in
-        let here = nth-rows h (item_at decoded s) index within held in
-        let same : x ≡ item_at decoded s place = cc in
-        subst (λ p. Tells p x) (sym (get_or-places h index within held))
-        (record {
-          its_amount = ap (λ y. amount y.element) same ∙ tells.0;
-          its_weight = ap (λ y. weight y.element) same ∙ tells.1;
-          its_known = ap (λ y. y.known) same;
-          its_of = ap (λ y. y.of) same;
-        })
-
-  -- there is a row for each index below the number held
-  pub row_there : {E : Type 0} (decoded : ℤ → ℕ → E) (index : ℕ) → index < (header_in s).held → None ≡ nth (rows_in decoded s) index → ⊥
-  row_there decoded index held missing =
-      let here = nth-rows (header_in s) (item_at decoded s) index (head_within kind (length s) (header_in s) header_sound) held in
-      let z : ◌≡◌ {A = ℕ} 0 1 = cc in
-      omega arith
+  -- nor has the row of an index
+  pub place_sound : (index : ℕ) → index < (header_in s).held → fault_at fault s (get_or (places (header_in s)) index 0) ≡ None
+  place_sound index held =
+      let h = header_in s in
+      let within = head_within kind (length s) h header_sound in
+      subst (λ p. fault_at fault s p ≡ None) (sym (get_or-places h index within held)) (row_sound (place_of h.head h.held index) (place_held h.head h.held index within held))

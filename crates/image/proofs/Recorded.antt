@@ -1,7 +1,8 @@
 -- One row more in the bytes of a ring. Assumes nothing.
-use Rattle.std.proofs.Common.{◌≡◌, ℕ, ◌+◌, ◌<◌, ◌≤◌, List, length, get_or, set, ℤ, None, Option, sym, refl, ap, ◌∙◌, subst, inl, inr, arith}
+use Rattle.std.proofs.Common.{◌≡◌, ℕ, ◌+◌, ◌<◌, ◌≤◌, Ok, Err, Result, List, length, get_or, set, ℤ, None, Option, sym, refl, ap, ◌∙◌, subst, inl, inr, arith}
 use Rattle.std.proofs.lemmas.List.FromFn.{fill_by_all, length-map-range_with_len, get_or-map-range_with_len}
 use Rattle.std.proofs.lemmas.List.{length-set, get_or-set_same, get_or-set_other}
+use Rattle.std.specs.Result.{IsOk}
 use Rattle.std.proofs.lemmas.Bool.{cases_lt, cases_eq}
 use Rattle.std.proofs.lemmas.Bool.Decides.{nat_tests}
 use Rattle.archive.specs.Entries.{empty_item}
@@ -15,9 +16,10 @@ use Rattle.lent_bytes.proofs.Placing.{length-placed}
 use Rattle.consolidation.specs.Laws.{Lawful}
 use Rattle.consolidation.specs.declared.item.Item.{Item}
 use Rattle.element.specs.declared.fault.ElementFault.{ElementFault}
+use Rattle.image.specs.declared.row.NoRow.{NoRow}
 use Rattle.image.specs.Headers.{header_in}
 use Rattle.image.specs.Rings.{image_span, header_of, turn_bytes, item_bytes, recorded, slots, meaning_of, Kept}
-use Rattle.image.specs.Rows.{row_start, fault_at, item_at, RowWritten, NoRow}
+use Rattle.image.specs.Rows.{row_start, fault_at, item_at, RowWritten, Unwritten, WritesRow}
 use Rattle.image.proofs.Elsewhere.{Alike, alike_before, alike_after, header_alike, fault_alike, item_alike}
 use Rattle.image.proofs.Headed.{turn_back}
 use Rattle.image.proofs.Shown.{kept_long}
@@ -80,6 +82,18 @@ module _ (kind : ℕ) (fault : ℤ → ℕ → Option ElementFault) (c : Cursor)
         | inr full ↦ grind (arith, nat_tests)
       ]
 
+  -- once the row is written, and the header is as it was
+  pub kept_written : fault_at fault written c.head ≡ None → Kept kind fault c written
+  kept_written sound = record {
+    turning = w.turning;
+    span_is = w.span_is ∙ ap image_span (sym length_written);
+    header_is = λ more. header_alike s written (alike_before s (row_start c.head) row 0 24 (let size = room in omega arith) (omega arith)) ∙ w.header_is more;
+    elements = λ place held. elim (cases_eq place c.head) [
+      | inl here ↦ ap (fault_at fault written) here ∙ sound
+      | inr apart ↦ fault_alike s written place (other place apart) fault ∙ w.elements place held
+    ];
+  }
+
   pub kept_after : fault_at fault written c.head ≡ None → Kept kind fault (turned_on c) after
   kept_after sound = record {
     turning = turning_on c some w.turning;
@@ -138,9 +152,22 @@ module _ {E : Type 0} (amount : E → ℤ) (weight : E → ℕ) (fault : ℤ →
           (λ i. meaning_of empty decoded (next i) (record_bytes i)) ∙ value_after kind fault c s (item_bytes amount weight x) refl w some decoded x back empty joined laws
 
   -- there is always room for it
-  pub record_room : (t : List ℕ) (kind : ℕ) → 0 < c.span → NoRow amount weight fault decoded s c.head t → Kept kind fault c s → ⊥
+  pub record_room : (t : List ℕ) (kind : ℕ) → 0 < c.span → Unwritten amount weight fault decoded s c.head t → Kept kind fault c s → ⊥
   record_room t kind some short w =
       let size = kept_long kind fault c s w some in
       let inside = head_inside c w.turning some in
       let past = short.short in
       omega arith
+
+-- the same, once it is known whether a row was written, and while the cursor is as it was
+module _ {E : Type 0} (amount : E → ℤ) (weight : E → ℕ) (fault : ℤ → ℕ → Option ElementFault) (decoded : ℤ → ℕ → E) (kind : ℕ) (c : Cursor) (s : List ℕ) (x : Item E) (t : List ℕ) (some : 0 < c.span) (w : Kept kind fault c s) where
+  pub row_kept : (r : Result (Unit {0}) NoRow) → WritesRow amount weight fault decoded s c.head x r t → Kept kind fault c t
+  row_kept (Ok _) row =
+      let sound = sym (ap (λ l. fault_at fault l c.head) row.bytes) ∙ row.sound in
+      subst (Kept kind fault c) (sym row.bytes) (kept_written kind fault c s (item_bytes amount weight x) refl w some sound)
+  row_kept (Err _) none = subst (Kept kind fault c) (sym none.same) w
+
+  -- it is always written
+  pub always_written : (r : Result (Unit {0}) NoRow) → WritesRow amount weight fault decoded s c.head x r t → IsOk r × RowWritten amount weight fault decoded s c.head x t
+  always_written (Ok _) row = (refl, row)
+  always_written (Err _) none = absurd (record_room amount weight fault decoded c s x t kind some none w)

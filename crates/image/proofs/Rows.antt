@@ -1,5 +1,8 @@
 -- A row that is written, and read again. Assumes nothing.
-use Rattle.std.proofs.Common.{◌≡◌, ℕ, ◌+◌, ◌/◌, ◌%◌, ◌^◌, ◌<◌, ◌≤◌, List, ◌++◌, length, ℤ, None, Option, sym, ap, ◌∙◌, add-zero, arith, w64, SFits, to_z, of_z}
+use Rattle.std.proofs.Common.{◌≡◌, ℕ, ◌+◌, [], ◌∷◌, ◌/◌, ◌%◌, ◌^◌, ◌<◌, ◌≤◌, List, length, ℤ, None, Option, sym, ap, ◌∙◌, add-zero, arith, w64, SFits, to_z, of_z}
+use Rattle.std.specs.Int.{to_le_bytes}
+use Rattle.std.specs.List.{flat_map}
+use Rattle.std.proofs.lemmas.Nat.{from_le_bytes-to_le_bytes_4}
 use Rattle.std.proofs.lemmas.Int.{ints, to_z-of_z}
 use Rattle.consolidation.specs.Items.{item}
 use Rattle.consolidation.specs.declared.item.Item.{Item}
@@ -8,24 +11,16 @@ use Rattle.lent_bytes.proofs.Placing.{placed_more}
 use Rattle.element.specs.declared.fault.ElementFault.{ElementFault}
 use Rattle.image.specs.Numbers.{le32, le64, bytes32, bytes64}
 use Rattle.image.specs.Rows.{row_start, amount_at, weight_at, known_at, of_at, fault_at, item_at, row_bytes, RowWritten}
-use Rattle.image.proofs.Numbers.{le32_placed, bytes32_write}
+use Rattle.image.proofs.Numbers.{bytes64_le, le32_placed}
 
 module _ (amount : ℤ) (weight known all : ℕ) where
   -- its four numbers, one after the other
-  pub row_placed : (s b₁ b₂ b₃ b₄ : List ℕ) (at : ℕ) → at + 20 ≤ length s
-      → b₁ ≡ placed s at (bytes64 (of_z w64 amount))
-      → b₂ ≡ placed b₁ (at + 8) (bytes32 weight)
-      → b₃ ≡ placed b₂ (at + 12) (bytes32 known)
-      → b₄ ≡ placed b₃ (at + 16) (bytes32 all)
-      → b₄ ≡ placed s at (row_bytes amount weight known all)
-  row_placed s b₁ b₂ b₃ b₄ at room p₁ p₂ p₃ p₄ =
+  pub row_placed : (s b₁ b₂ : List ℕ) (at : ℕ) → at + 20 ≤ length s → b₁ ≡ placed s at (to_le_bytes w64 (of_z w64 amount)) → b₂ ≡ placed b₁ (at + 8) (flat_map bytes32 (weight ∷ known ∷ all ∷ []))
+      → b₂ ≡ placed s at (row_bytes amount weight known all)
+  row_placed s b₁ b₂ at room p₁ p₂ =
       let a = bytes64 (of_z w64 amount) in
-      let w = bytes32 weight in
-      let k = bytes32 known in
-      let o = bytes32 all in
-      let q₂ = p₂ ∙ ap (λ l. placed l (at + 8) w) p₁ ∙ placed_more s at (at + 8) a w (omega arith) (omega arith) in
-      let q₃ = p₃ ∙ ap (λ l. placed l (at + 12) k) q₂ ∙ placed_more s at (at + 12) (a ++ w) k (omega arith) (omega arith) in
-      p₄ ∙ ap (λ l. placed l (at + 16) o) q₃ ∙ placed_more s at (at + 16) ((a ++ w) ++ k) o (omega arith) (omega arith)
+      let counts = flat_map bytes32 (weight ∷ known ∷ all ∷ []) in
+      p₂ ∙ ap (λ l. placed l (at + 8) counts) (p₁ ∙ ap (placed s at) (bytes64_le (of_z w64 amount))) ∙ placed_more s at (at + 8) a counts (omega arith) (omega arith)
 
   -- what is read of them
   pub record ReadBack (t : List ℕ) (place : ℕ) : Type 0 where
@@ -41,14 +36,14 @@ module _ (amount : ℤ) (weight known all : ℕ) where
       let t = placed s at row in
       let n = of_z w64 amount in
       let in-w64 : n < 2 ^ 64 = omega (arith, ints) in
-      let low : le32 t at ≡ n % 4294967296 = ap (le32 t) (sym (add-zero at)) ∙ le32_placed s at 0 row (omega arith) (omega arith) ∙ bytes32_write (n % 4294967296) (omega arith) in
-      let high : le32 t (at + 4) ≡ n / 4294967296 = le32_placed s at 4 row (omega arith) (omega arith) ∙ bytes32_write (n / 4294967296) (omega arith) in
+      let low : le32 t at ≡ n % 4294967296 = ap (le32 t) (sym (add-zero at)) ∙ le32_placed s at 0 row (omega arith) (omega arith) ∙ from_le_bytes-to_le_bytes_4 (n % 4294967296) (omega arith) in
+      let high : le32 t (at + 4) ≡ n / 4294967296 = le32_placed s at 4 row (omega arith) (omega arith) ∙ from_le_bytes-to_le_bytes_4 (n / 4294967296) (omega arith) in
       let whole : le64 t at ≡ n = omega arith in
       record {
         amount_back = ap (to_z w64) whole ∙ to_z-of_z w64 amount fa;
-        weight_back = le32_placed s at 8 row (omega arith) (omega arith) ∙ bytes32_write weight fw;
-        known_back = le32_placed s at 12 row (omega arith) (omega arith) ∙ bytes32_write known fk;
-        of_back = le32_placed s at 16 row (omega arith) (omega arith) ∙ bytes32_write all fo;
+        weight_back = le32_placed s at 8 row (omega arith) (omega arith) ∙ from_le_bytes-to_le_bytes_4 weight fw;
+        known_back = le32_placed s at 12 row (omega arith) (omega arith) ∙ from_le_bytes-to_le_bytes_4 known fk;
+        of_back = le32_placed s at 16 row (omega arith) (omega arith) ∙ from_le_bytes-to_le_bytes_4 all fo;
       }
 
 module _ {E : Type 0} (amount : E → ℤ) (weight : E → ℕ) (fault : ℤ → ℕ → Option ElementFault) (decoded : ℤ → ℕ → E) where

@@ -13,13 +13,12 @@ use Rattle.archive.proofs.Ringing.{span_whole}
 use Rattle.element.specs.declared.fault.ElementFault.{ElementFault}
 use Rattle.element.specs.Faults.{◌or◌}
 use Rattle.image.specs.declared.fault.ImageFault.TheVariants.{Length, Kind, Span, Held, Head, Total, Element}
-use Rattle.image.specs.declared.opened.Image.{Image}
-use Rattle.image.specs.declared.ring.ImageRing.{ImageRing}
+use Rattle.image.specs.declared.header.Header.{Header}
 use Rattle.image.specs.Faults.{earliest}
 use Rattle.image.specs.Headers.{header_in, length_fault, head_kept, header_fault, front_fault}
-use Rattle.image.specs.Images.{bad_element, image_fault, places, rows_in}
-use Rattle.image.specs.Opened.{bytes_of}
-use Rattle.image.specs.RingImages.{ring_bytes, ring_well, ImageOfRing}
+use Rattle.image.specs.Images.{bad_element, places, rows_in}
+use Rattle.image.specs.Opened.{Opened}
+use Rattle.image.specs.RingImages.{ImageOfRing}
 use Rattle.image.specs.Rings.{rows_for, image_span, header_of, meaning_of, Kept, Shows}
 use Rattle.image.specs.Rows.{item_at}
 use Rattle.image.proofs.Faults.{when_false, or_second, earliest_all}
@@ -85,15 +84,17 @@ module _ (kind : ℕ) (fault : ℤ → ℕ → Option ElementFault) (c : Cursor)
       }
 
 -- so it is an opened image, without a check
-pub image_of_ring : (kind : ℕ) (fault : ℤ → ℕ → Option ElementFault) {E : Type 0} (empty : E) (decoded : ℤ → ℕ → E) (ring : ImageRing E) (image : Image E)
-    → ring_well kind fault ring → 0 < ring.cursor.span → bytes_of image ≡ ring_bytes ring → image.header ≡ header_of kind ring.cursor → ImageOfRing kind fault empty decoded ring image
-image_of_ring kind fault empty decoded ring image well some of_bytes header =
-    let shown = shows kind fault ring.cursor (ring_bytes ring) well empty decoded some in
-    record {
-      some_rows = some;
-      of_bytes = of_bytes;
-      opened = record { sound = ap (image_fault kind fault) of_bytes ∙ shown.no_fault; header_is = header ∙ sym (well.header_is some) ∙ sym (ap header_in of_bytes) };
-      same_meaning =
-          ap (λ s. ending (empty_item empty) (header_in s).span (rows_in decoded s)) of_bytes
-          ∙ (λ i. ending (empty_item empty) (shown.span_shown i) (shown.rows_shown i));
-    }
+module _ (kind : ℕ) (fault : ℤ → ℕ → Option ElementFault) {E : Type 0} (empty : E) (decoded : ℤ → ℕ → E) (c : Cursor) (s : List ℕ) (w : Kept kind fault c s) (some : 0 < c.span) where
+  pub ring_opened : (h : Header) → h ≡ header_of kind c → Opened kind fault h s
+  ring_opened h is = record { sound = (shows kind fault c s w empty decoded some).no_fault; header_is = is ∙ sym (w.header_is some) }
+
+  pub image_of_ring : (t : List ℕ) → t ≡ s → ImageOfRing empty decoded c s t
+  image_of_ring t of_bytes =
+      let shown = shows kind fault c s w empty decoded some in
+      record {
+        some_rows = some;
+        of_bytes = of_bytes;
+        same_meaning =
+            ap (λ s. ending (empty_item empty) (header_in s).span (rows_in decoded s)) of_bytes
+            ∙ (λ i. ending (empty_item empty) (shown.span_shown i) (shown.rows_shown i));
+      }

@@ -1,5 +1,5 @@
 -- What is wrong with an image, and what rows it holds. Assumes nothing.
-use Rattle.std.specs.Prelude.{ℕ, zero, suc, ◌+◌, ◌-◌, cond, List, [], ◌∷◌, ◌++◌, map, take, drop, ℤ, Some, None, Option, nat_lt}
+use Rattle.std.specs.Prelude.{ℕ, ◌+◌, ◌-◌, cond, List, ◌++◌, map, take, drop, ℤ, Option, nat_lt}
 use Rattle.std.specs.List.{range_with_len}
 use Rattle.std.specs.Option.{option_map}
 use Rattle.consolidation.specs.declared.item.Item.{Item}
@@ -32,9 +32,3 @@ rows_in decoded s = map (item_at decoded s) (places (header_in s))
 -- where the row of an index stands among them
 abbrev pub place_of : (head held index : ℕ) → ℕ
 place_of head held index = cond (nat_lt index (held - head)) (head + index) (index - (held - head))
-
--- what stands at an index, if anything does
-abbrev pub nth : {X : Type 0} → List X → ℕ → Option X
-nth [] i = None
-nth (x ∷ xs) zero = Some x
-nth (x ∷ xs) (suc i) = nth xs i

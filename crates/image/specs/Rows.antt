@@ -1,11 +1,12 @@
 -- How an item lies in a row of 20 bytes. Assumes nothing.
-use Rattle.std.specs.Prelude.{◌≡◌, ℕ, ◌+◌, ◌*◌, ◌<◌, ◌≤◌, Bool, true, false, List, ◌++◌, length, ℤ, None, Option}
+use Rattle.std.specs.Prelude.{◌≡◌, ℕ, ◌+◌, ◌*◌, ◌<◌, ◌≤◌, List, ◌++◌, length, ℤ, None, Ok, Err, Option, Result}
 use Rattle.std.specs.Int.{w64}
 use Rattle.std.proofs.Common.{to_z, of_z}
 use Rattle.lent_bytes.specs.Placed.{placed}
 use Rattle.consolidation.specs.Items.{item}
 use Rattle.consolidation.specs.declared.item.Item.{Item}
 use Rattle.element.specs.declared.fault.ElementFault.{ElementFault}
+use Rattle.image.specs.declared.row.NoRow.{NoRow}
 use Rattle.image.specs.Numbers.{le32, le64, bytes32, bytes64}
 
 -- the first byte of the row at a place
@@ -46,10 +47,10 @@ module _ {E : Type 0} (amount : E → ℤ) (weight : E → ℕ) (fault : ℤ →
     pub back : item_at decoded after place ≡ x
 
   -- or there is no such row, and nothing is changed
-  pub record NoRow (before : List ℕ) (place : ℕ) (after : List ℕ) : Type 0 where
+  pub record Unwritten (before : List ℕ) (place : ℕ) (after : List ℕ) : Type 0 where
     pub short : length before < row_start place + 20
     pub same : after ≡ before
 
-  abbrev pub WritesRow : List ℕ → ℕ → Item E → Bool → List ℕ → Type 0
-  WritesRow before place x true after = RowWritten before place x after
-  WritesRow before place x false after = NoRow before place after
+  abbrev pub WritesRow : List ℕ → ℕ → Item E → Result (Unit {0}) NoRow → List ℕ → Type 0
+  WritesRow before place x (Ok _) after = RowWritten before place x after
+  WritesRow before place x (Err _) after = Unwritten before place after

@@ -1,9 +1,10 @@
 // What can be wrong with an image, and where.
 ghost use Rattle.std.specs.Prelude.{◌≡◌};
-ghost use Rattle.image.specs.declared.fault.ImageFault.TheVariants.{Element};
+ghost use Rattle.image.specs.declared.fault.ImageFault.TheVariants.{Element, Kind};
 ghost use Rattle.image.specs.Faults.{number_of_fault, byte_of_fault};
 
 use element::fault::ElementFault;
+use element::kind::UnknownKind;
 
 // An element's fault, with the place of its row and the first byte of that row.
 #[derive(Clone, Copy, PartialEq, Eq, Debug)]
@@ -26,6 +27,7 @@ pub enum ImageFault {
 }
 
 impl ImageFault {
+    // No discriminant: two faults share a number, and one carries what it found.
     pub fn number(self) -> u32
         ensures { result ≡ number_of_fault self }
     {
@@ -60,5 +62,13 @@ impl From<BadElement> for ImageFault {
 
     fn from(element: BadElement) -> ImageFault {
         ImageFault::Element(element)
+    }
+}
+
+impl From<UnknownKind> for ImageFault {
+    ghost from_gives = { λ _ r. r ≡ Kind };
+
+    fn from(_kind: UnknownKind) -> ImageFault {
+        ImageFault::Kind
     }
 }

@@ -8,7 +8,7 @@ ghost use Rattle.image.specs.Numbers.{bytes32};
 ghost use Rattle.image.specs.Rings.{header_bytes};
 
 use crate::fault::ImageFault;
-use crate::number::{read_u32, write_u32};
+use crate::number::{field, numbers, put_numbers};
 use crate::row::ROW;
 // The most rows that an image can have room for.
 pub use archive::cursor::MOST_ROWS;
@@ -20,7 +20,7 @@ pub(crate) const HEADER: usize = 24;
 // The most bytes that an image can have, 60,024.
 pub const MOST_BYTES: usize = HEADER + ROW * MOST_ROWS as usize;
 
-#[derive(Clone, Copy)]
+#[derive(Clone, Copy, PartialEq, Eq, Debug)]
 pub struct Header {
     pub(crate) kind: u32,
     // How many rows there is room for.
@@ -37,13 +37,14 @@ fn read_header(bytes: &[u8]) -> Header
     requires { 24 ≤ length bytes.now }
     ensures { result ≡ header_in bytes.now }
 {
+    let [kind, span, held, head, offset, total] = numbers::<6>(bytes, 0);
     Header {
-        kind: read_u32(bytes, 0),
-        span: read_u32(bytes, 4),
-        held: read_u32(bytes, 8),
-        head: read_u32(bytes, 12),
-        offset: read_u32(bytes, 16),
-        total: read_u32(bytes, 20),
+        kind,
+        span,
+        held,
+        head,
+        offset,
+        total,
     }
 }
 
@@ -51,12 +52,15 @@ pub(crate) fn write_header(bytes: &mut [u8], header: Header)
     requires { 24 ≤ length bytes.old }
     ensures { bytes.new ≡ placed bytes.old 0 (header_bytes header) }
 {
-    write_u32(bytes, 0, header.kind);
-    write_u32(bytes, 4, header.span);
-    write_u32(bytes, 8, header.held);
-    write_u32(bytes, 12, header.head);
-    write_u32(bytes, 16, header.offset);
-    write_u32(bytes, 20, header.total);
+    let Header {
+        kind,
+        span,
+        held,
+        head,
+        offset,
+        total,
+    } = header;
+    put_numbers(bytes, 0, [kind, span, held, head, offset, total]);
 }
 
 // The two numbers that change as rows are written.
@@ -64,8 +68,7 @@ pub(crate) fn write_turn(bytes: &mut [u8], held: u32, head: u32)
     requires { 24 ≤ length bytes.old }
     ensures { bytes.new ≡ placed bytes.old 8 (bytes32 held ++ bytes32 head) }
 {
-    write_u32(bytes, 8, held);
-    write_u32(bytes, 12, head);
+    put_numbers(bytes, 8, [held, head]);
 }
 
 fn check_length(len: usize) -> Result<(), ImageFault>
@@ -145,10 +148,10 @@ pub(crate) fn open_header(bytes: &[u8], kind: Kind) -> Result<Header, ImageFault
 {
     check_length(bytes.len())?;
     let header = read_header(bytes);
-    match header.fault(kind, bytes.len()) {
-        Some(fault) => Err(fault),
-        None => Ok(header),
+    if let Some(fault) = header.fault(kind, bytes.len()) {
+        return Err(fault);
     }
+    Ok(header)
 }
 
 // Which kind of image the bytes say they are.
@@ -156,5 +159,5 @@ pub fn kind_of(bytes: &[u8]) -> Result<Kind, ImageFault>
     ensures { result ≡ kind_read bytes.now }
 {
     check_length(bytes.len())?;
-    Kind::numbered(read_u32(bytes, 0)).ok_or(ImageFault::Kind)
+    Ok(Kind::try_from(u32::from_le_bytes(field(bytes, 0)))?)
 }

@@ -1,38 +1,44 @@
 // Numbers as bytes, the lowest byte first.
-ghost use Rattle.std.specs.Prelude.{◌≡◌, ◌+◌, ◌≤◌, length};
+ghost use Rattle.std.specs.Prelude.{◌≡◌, ◌+◌, ◌*◌, ◌≤◌, length, map, take, drop};
+ghost use Rattle.std.specs.List.{flat_map, range_with_len};
 ghost use Rattle.lent_bytes.specs.Placed.{placed};
-ghost use Rattle.image.specs.Numbers.{le32, le64, bytes32, bytes64};
+ghost use Rattle.image.specs.Numbers.{le32, bytes32};
 
 use lent_bytes::put;
 
-pub(crate) fn read_u32(bytes: &[u8], at: usize) -> u32
-    requires { at + 4 ≤ length bytes.now }
-    ensures { result ≡ le32 bytes.now at }
+// The bytes of a number, from a place on.
+pub(crate) fn field<const N: usize>(bytes: &[u8], at: usize) -> [u8; N]
+    requires { at + N ≤ length bytes.now }
+    ensures { result ≡ take N (drop at bytes.now) }
 {
-    u32::from_le_bytes([bytes[at], bytes[at + 1], bytes[at + 2], bytes[at + 3]])
+    *bytes[at..].first_chunk().unwrap()
 }
 
-pub(crate) fn read_u64(bytes: &[u8], at: usize) -> u64
-    requires { at + 8 ≤ length bytes.now }
-    ensures { result ≡ le64 bytes.now at }
-{
-    let low = read_u32(bytes, at);
-    let high = read_u32(bytes, at + 4);
-    low as u64 + high as u64 * 4294967296
-}
-
-pub(crate) fn write_u32(bytes: &mut [u8], at: usize, n: u32)
-    requires { at + 4 ≤ length bytes.old }
-    ensures { bytes.new ≡ placed bytes.old at (bytes32 n) }
+pub(crate) fn put_field<const N: usize>(bytes: &mut [u8], at: usize, field: [u8; N])
+    requires { at + N ≤ length bytes.old }
+    ensures { bytes.new ≡ placed bytes.old at field.entry }
 {
     // There is room, so it is put.
-    let _ = put(bytes, at, &n.to_le_bytes());
+    let _ = put(bytes, at, &field);
 }
 
-pub(crate) fn write_u64(bytes: &mut [u8], at: usize, n: u64)
-    requires { at + 8 ≤ length bytes.old }
-    ensures { bytes.new ≡ placed bytes.old at (bytes64 n) }
+// Numbers of four bytes, one after the other, from a place on.
+pub(crate) fn numbers<const N: usize>(bytes: &[u8], at: usize) -> [u32; N]
+    requires { at + 4 * N ≤ length bytes.now }
+    ensures { result ≡ map (λ k. le32 bytes.now (at + 4 * k)) (range_with_len 0 N) }
 {
-    write_u32(bytes, at, (n % 4294967296) as u32);
-    write_u32(bytes, at + 4, (n / 4294967296) as u32);
+    let mut numbers = [0; N];
+    for (k, number) in numbers.iter_mut().enumerate() {
+        *number = u32::from_le_bytes(field(bytes, at + 4 * k));
+    }
+    numbers
+}
+
+pub(crate) fn put_numbers<const N: usize>(bytes: &mut [u8], at: usize, numbers: [u32; N])
+    requires { at + 4 * N ≤ length bytes.old }
+    ensures { bytes.new ≡ placed bytes.old at (flat_map bytes32 numbers.entry) }
+{
+    for (k, number) in numbers.iter().enumerate() {
+        put_field(bytes, at + 4 * k, number.to_le_bytes());
+    }
 }

@@ -1,13 +1,16 @@
 // An image whose bytes were checked, for reading.
-ghost use Rattle.std.specs.Prelude.{◌≡◌, ◌+◌, ◌<◌, ◌≤◌, length};
+ghost use Rattle.std.specs.Prelude.{◌≡◌, ◌+◌, ◌<◌, ◌≤◌, List, length, drop, IfOk, OnOk};
+ghost use Rattle.std.specs.Iterator.{YieldsFirst, item_count};
+ghost use Rattle.std.specs.List.{slice_get};
 ghost use Rattle.std.specs.Result.{result_err};
 ghost use Rattle.archive.specs.Entries.{empty_item, item_counts};
 ghost use Rattle.archive.specs.Meanings.{asked};
+ghost use Rattle.consolidation.specs.declared.item.Item.{Item};
 ghost use Rattle.element.specs.Faults.{unless};
 ghost use Rattle.image.specs.Headers.{header_in};
-ghost use Rattle.image.specs.Images.{bad_element, image_fault, place_of, rows_in, nth};
+ghost use Rattle.image.specs.Images.{bad_element, image_fault, place_of, rows_in};
 ghost use Rattle.element.specs.Kinds.{number_of_kind};
-ghost use Rattle.image.specs.Opened.{Opened, Opens, bytes_of, image_meaning};
+ghost use Rattle.image.specs.Opened.{Opened, Ruled, image_meaning};
 ghost use Rattle.image.specs.Rows.{row_start};
 
 use crate::fault::{BadElement, ImageFault};
@@ -17,13 +20,27 @@ use archive::entry::WHOLE;
 use consolidation::item::Item;
 use consolidation::monoid::Monoid;
 use element::coded::Coded;
-use std::marker::PhantomData;
+use std::marker::{Model, PhantomData};
 
 #[derive(Drop)]
-pub struct Image<'a, E> {
+pub struct Image<'a, E: Coded> {
     bytes: &'a [u8],
     header: Header,
     element: PhantomData<E>,
+    ghost opened: { Opened (number_of_kind E.Coded.KIND) E.Coded.fault header bytes.now },
+}
+
+// The rows of an image that are left, the oldest first; a clause sees their list.
+#[derive(Drop)]
+pub struct Rows<'i, 'a, E: Coded> {
+    image: &'i Image<'a, E>,
+    index: u32,
+}
+
+impl<'i, 'a, E: Coded> Model for Rows<'i, 'a, E> {
+    ghost Value = { List (Item E) };
+
+    ghost view = { λ rows. drop rows.index (rows_in E.Coded.decoded rows.image.now.bytes.now) };
 }
 
 // The element's fault in the row at a place, with that place and the row's first byte.
@@ -31,21 +48,19 @@ fn check_row<E: Coded + Copy>(bytes: &[u8], place: u32) -> Result<(), BadElement
     requires { (row_start place + 20 ≤ length bytes.now) × (place < 3000) }
     ensures { result_err result ≡ bad_element E.Coded.fault bytes.now place }
 {
-    match read_row::<E>(bytes, place) {
-        Ok(_) => Ok(()),
-        Err(fault) => Err(BadElement {
-            place,
-            byte: row_start(place) as u32,
-            fault,
-        }),
-    }
+    read_row::<E>(bytes, place).map_err(|fault| BadElement {
+        place,
+        byte: row_start(place) as u32,
+        fault,
+    })?;
+    Ok(())
 }
 
 // The header of an image of `E`'s kind, or the first fault of the image.
 fn check<E: Coded + Copy>(bytes: &[u8]) -> Result<Header, ImageFault>
-    ensures { result ≡ unless (image_fault (number_of_kind E.Coded.kind) E.Coded.fault bytes.now) (header_in bytes.now) }
+    ensures { result ≡ unless (image_fault (number_of_kind E.Coded.KIND) E.Coded.fault bytes.now) (header_in bytes.now) }
 {
-    let header = open_header(bytes, E::kind())?;
+    let header = open_header(bytes, E::KIND)?;
     for place in 0..header.held {
         check_row::<E>(bytes, place)?;
     }
@@ -68,22 +83,22 @@ fn place_of(head: u32, held: u32, index: u32) -> u32
 impl<'a, E: Coded + Copy> Image<'a, E> {
     // The image of these bytes, or the first fault that they have as one of `E`'s kind.
     pub fn open(bytes: &'a [u8]) -> Result<Image<'a, E>, ImageFault>
-        ensures { Opens (number_of_kind E.Coded.kind) E.Coded.fault bytes.now result }
+        ensures bytes { IfOk result (λ image. image.bytes.now ≡ bytes.now) }
+        ensures ruled { OnOk result (Ruled (number_of_kind E.Coded.KIND) E.Coded.fault bytes.now) }
+        ensures fault { result_err result ≡ image_fault (number_of_kind E.Coded.KIND) E.Coded.fault bytes.now }
     {
-        match check::<E>(bytes) {
-            Ok(header) => Ok(Image {
-                bytes,
-                header,
-                element: PhantomData,
-            }),
-            Err(fault) => Err(fault),
-        }
+        let header = check::<E>(bytes)?;
+        Ok(Image {
+            bytes,
+            header,
+            element: PhantomData,
+        })
     }
 
     // An image of bytes that are known to have no fault.
     pub(crate) fn of_parts(bytes: &'a [u8], header: Header) -> Image<'a, E>
-        ensures bytes { bytes_of result ≡ bytes.now }
-        ensures header { result.header ≡ header }
+        requires { Opened (number_of_kind E.Coded.KIND) E.Coded.fault header bytes.now }
+        ensures { result.bytes.now ≡ bytes.now }
     {
         Image {
             bytes,
@@ -94,49 +109,49 @@ impl<'a, E: Coded + Copy> Image<'a, E> {
 
     // How many items make one row.
     pub fn width(&self) -> u32
-        ensures { Opened (number_of_kind E.Coded.kind) E.Coded.fault self.now → result ≡ (image_meaning E.Monoid.empty E.Coded.decoded self.now).width }
+        ensures { result ≡ (image_meaning E.Monoid.empty E.Coded.decoded self.now.bytes.now).width }
     {
         1
     }
 
     // How much of a row may be unknown, in thousandths.
     pub fn allowance(&self) -> u32
-        ensures { Opened (number_of_kind E.Coded.kind) E.Coded.fault self.now → result ≡ (image_meaning E.Monoid.empty E.Coded.decoded self.now).allowance }
+        ensures { result ≡ (image_meaning E.Monoid.empty E.Coded.decoded self.now.bytes.now).allowance }
     {
         WHOLE
     }
 
     // How many items the open row has.
     pub fn begun(&self) -> u32
-        ensures { Opened (number_of_kind E.Coded.kind) E.Coded.fault self.now → result ≡ (image_meaning E.Monoid.empty E.Coded.decoded self.now).begun }
+        ensures { result ≡ (image_meaning E.Monoid.empty E.Coded.decoded self.now.bytes.now).begun }
     {
         0
     }
 
     // The joining of these.
     pub fn part(&self) -> Item<E>
-        ensures { Opened (number_of_kind E.Coded.kind) E.Coded.fault self.now → result ≡ (image_meaning E.Monoid.empty E.Coded.decoded self.now).part }
+        ensures { result ≡ (image_meaning E.Monoid.empty E.Coded.decoded self.now.bytes.now).part }
     {
         Item::empty()
     }
 
     // How many rows there is room for.
     pub fn span(&self) -> u32
-        ensures { Opened (number_of_kind E.Coded.kind) E.Coded.fault self.now → result ≡ (header_in (bytes_of self.now)).span }
+        ensures { result ≡ (header_in self.now.bytes.now).span }
     {
         self.header.span
     }
 
     // How many rows are held.
     pub fn held(&self) -> u32
-        ensures { Opened (number_of_kind E.Coded.kind) E.Coded.fault self.now → result ≡ length (rows_in E.Coded.decoded (bytes_of self.now)) }
+        ensures { result ≡ length (rows_in E.Coded.decoded self.now.bytes.now) }
     {
         self.header.held
     }
 
     // The row of an index, the oldest being the first; none past the newest.
     pub fn row(&self, index: u32) -> Option<Item<E>>
-        ensures { Opened (number_of_kind E.Coded.kind) E.Coded.fault self.now → result ≡ nth (rows_in E.Coded.decoded (bytes_of self.now)) index }
+        ensures { result ≡ slice_get (rows_in E.Coded.decoded self.now.bytes.now) index }
     {
         let head = self.header.head;
         let held = self.header.held;
@@ -146,14 +161,39 @@ impl<'a, E: Coded + Copy> Image<'a, E> {
         row_at(self.bytes, place_of(head, held, index))
     }
 
+    // The rows that are held, the oldest first.
+    pub fn rows(&self) -> Rows<'_, 'a, E>
+        ensures { result ≡ rows_in E.Coded.decoded self.now.bytes.now }
+    {
+        Rows {
+            image: self,
+            index: 0,
+        }
+    }
+
     // The row of an age, 0 for the newest; none past the oldest.
     pub fn ask(&self, age: u32) -> Option<Item<E>>
-        ensures { Opened (number_of_kind E.Coded.kind) E.Coded.fault self.now → result ≡ asked (empty_item E.Monoid.empty) (item_counts E.Monoid.empty) (image_meaning E.Monoid.empty E.Coded.decoded self.now) age }
+        ensures { result ≡ asked (empty_item E.Monoid.empty) (item_counts E.Monoid.empty) (image_meaning E.Monoid.empty E.Coded.decoded self.now.bytes.now) age }
     {
         let held = self.held();
         if age >= held {
             return None;
         }
         self.row(held - 1 - age)
+    }
+}
+
+impl<'i, 'a, E: Coded + Copy> Iterator for Rows<'i, 'a, E> {
+    type Item = Item<E>;
+
+    ghost next_gives = { YieldsFirst (λ rest. rest) };
+
+    ghost remaining = { item_count (λ rest. rest) };
+
+    #[tactic(auto, using(crate::proofs::Left::none_left, crate::proofs::Left::one_left))]
+    fn next(&mut self) -> Option<Item<E>> {
+        let row = self.image.row(self.index)?;
+        self.index += 1;
+        Some(row)
     }
 }

@@ -1,5 +1,5 @@
 // An archive whose rows lie in bytes that are lent, as an image has them.
-ghost use Rattle.std.specs.Prelude.{◌≡◌, ◌<◌, ◌≤◌, length, ◌==◌};
+ghost use Rattle.std.specs.Prelude.{◌≡◌, ◌<◌, ◌≤◌, length, MatchOption, ◌==◌};
 ghost use Rattle.archive.specs.Entries.{empty_item};
 ghost use Rattle.archive.specs.Meanings.{fresh, stored};
 ghost use Rattle.archive.specs.Refusals.{refused_if};
@@ -7,8 +7,8 @@ ghost use Rattle.archive.specs.Rings.{cursor};
 ghost use Rattle.archive.specs.declared.refusal.Refusal.TheVariants.{Span};
 ghost use Rattle.consolidation.specs.Items.{item_joined};
 ghost use Rattle.element.specs.Kinds.{number_of_kind};
-ghost use Rattle.image.specs.RingImages.{ring_bytes, ring_meaning, ring_well, ring_sound, OpensRing};
-ghost use Rattle.image.specs.Rings.{rows_for, image_span, header_of, laid_out, recorded, item_bytes, Shows};
+ghost use Rattle.image.specs.RingImages.{ring_sound, ImageOfRing};
+ghost use Rattle.image.specs.Rings.{rows_for, image_span, header_of, laid_out, recorded, item_bytes, meaning_of, Kept, Shows};
 
 use crate::header::{HEADER, Header, write_header, write_turn};
 use crate::opened::Image;
@@ -20,16 +20,18 @@ use archive::refusal::Refusal;
 use consolidation::item::Item;
 use consolidation::monoid::Monoid;
 use element::coded::Coded;
+use element::kind::Kind;
 use std::marker::PhantomData;
 
 #[derive(Drop)]
-pub struct ImageRing<'a, E> {
+pub struct ImageRing<'a, E: Coded> {
     bytes: &'a mut [u8],
     cursor: Cursor,
     element: PhantomData<E>,
+    ghost kept: { Kept (number_of_kind E.Coded.KIND) E.Coded.fault cursor bytes.now },
 }
 
-// How many rows take so many bytes with the header; 0 where no number of rows does.
+// How many rows take so many bytes with the header. Where no number of rows does it is 0, as it is of a header alone: neither is a ring.
 fn rows_for(len: usize) -> usize
     ensures { result ≡ rows_for len }
 {
@@ -38,12 +40,12 @@ fn rows_for(len: usize) -> usize
 }
 
 // The header of a ring of this kind.
-fn header_of(kind: u32, cursor: Cursor) -> Header
+fn header_of(kind: Kind, cursor: Cursor) -> Header
     requires { cursor.span ≤ 3000 }
-    ensures { result ≡ header_of kind cursor }
+    ensures { result ≡ header_of (number_of_kind kind) cursor }
 {
     Header {
-        kind,
+        kind: kind.number(),
         span: cursor.span,
         held: cursor.held,
         head: cursor.head,
@@ -53,9 +55,9 @@ fn header_of(kind: u32, cursor: Cursor) -> Header
 }
 
 // Writes a ring that holds no row: its header, and zeroes. Bytes that are no ring stay as they are, under a cursor of span 0.
-fn lay_out(bytes: &mut [u8], kind: u32) -> Cursor
+fn lay_out(bytes: &mut [u8], kind: Kind) -> Cursor
     ensures cursor { result ≡ cursor (image_span (length bytes.old)) 0 0 }
-    ensures bytes { bytes.new ≡ laid_out kind bytes.old }
+    ensures bytes { bytes.new ≡ laid_out (number_of_kind kind) bytes.old }
 {
     let cursor = Cursor::new(rows_for(bytes.len()));
     if cursor.span > 0 {
@@ -78,12 +80,11 @@ impl<'a, E: Coded + Copy> ImageRing<'a, E> {
 
     // A ring that holds no row. Over bytes that are refused it never holds one, and does not write them.
     pub fn new(bytes: &'a mut [u8]) -> Self
-        ensures well { ring_well (number_of_kind E.Coded.kind) E.Coded.fault result }
-        ensures fresh { ring_meaning E.Monoid.empty E.Coded.decoded result ≡ fresh (empty_item E.Monoid.empty) 1 (image_span (length bytes.old)) 1000 }
+        ensures fresh { ⟦<ImageRing<'a, E> as Archive>⟧.meaning result ≡ fresh (empty_item E.Monoid.empty) 1 (image_span (length bytes.old)) 1000 }
         ensures lender { result.bytes.ghost_name ≡ bytes.entry.ghost_name }
-        ensures bytes { ring_bytes result ≡ laid_out (number_of_kind E.Coded.kind) bytes.old }
+        ensures bytes { result.bytes.now ≡ laid_out (number_of_kind E.Coded.KIND) bytes.old }
     {
-        let cursor = lay_out(bytes, E::kind().number());
+        let cursor = lay_out(bytes, E::KIND);
         ImageRing {
             bytes,
             cursor,
@@ -93,57 +94,51 @@ impl<'a, E: Coded + Copy> ImageRing<'a, E> {
 
     // The bytes, which are an image at every moment, unless the ring has no places.
     pub fn bytes(&self) -> &[u8]
-        ensures is { result.now ≡ ring_bytes self.now }
-        ensures shows { ring_well (number_of_kind E.Coded.kind) E.Coded.fault self.now → 0 < self.now.cursor.span → Shows (number_of_kind E.Coded.kind) E.Coded.fault E.Coded.decoded (ring_meaning E.Monoid.empty E.Coded.decoded self.now) result.now }
+        ensures is { result.now ≡ self.now.bytes.now }
+        ensures shows { 0 < self.now.cursor.span → Shows (number_of_kind E.Coded.KIND) E.Coded.fault E.Coded.decoded (⟦<ImageRing<'a, E> as Archive>⟧.meaning self.now) result.now }
     {
         self.bytes
     }
 
     // An image of them, which needs no check; none of a ring without places.
     pub fn open(&self) -> Option<Image<'_, E>>
-        ensures { ring_well (number_of_kind E.Coded.kind) E.Coded.fault self.now → OpensRing (number_of_kind E.Coded.kind) E.Coded.fault E.Monoid.empty E.Coded.decoded self.now result }
+        ensures { MatchOption result (self.now.cursor.span ≡ 0) (λ image. ImageOfRing E.Monoid.empty E.Coded.decoded self.now.cursor self.now.bytes.now image.bytes.now) }
     {
         let cursor = self.cursor;
         if wrong_span(cursor.span as usize) {
             return None;
         }
-        Some(Image::of_parts(self.bytes, header_of(E::kind().number(), cursor)))
+        Some(Image::of_parts(self.bytes, header_of(E::KIND, cursor)))
     }
 }
 
 impl<'a, E: Coded + Copy> Archive for ImageRing<'a, E> {
     type Item = Item<E>;
 
-    ghost well = { ring_well (number_of_kind E.Coded.kind) E.Coded.fault };
+    ghost meaning = { λ s. meaning_of E.Monoid.empty E.Coded.decoded s.cursor s.bytes.now };
 
-    ghost meaning = { ring_meaning E.Monoid.empty E.Coded.decoded };
-
-    ghost sound = { ring_sound (number_of_kind E.Coded.kind) E.Coded.fault E.Monoid.empty E.Coded.decoded };
+    ghost sound = { λ s. ring_sound E.Monoid.empty E.Coded.decoded s.cursor s.bytes.now s.kept.turning };
 
     // Writes the item as the newest row, over the oldest when the ring is full.
     fn store(&mut self, item: Item<E>)
-        ensures kept { ring_well (number_of_kind E.Coded.kind) E.Coded.fault self.old → ring_well (number_of_kind E.Coded.kind) E.Coded.fault self.new }
-        ensures value { ring_well (number_of_kind E.Coded.kind) E.Coded.fault self.old → ring_meaning E.Monoid.empty E.Coded.decoded self.new ≡ stored (empty_item E.Monoid.empty) (item_joined E.Monoid.joined) (ring_meaning E.Monoid.empty E.Coded.decoded self.old) item }
+        ensures value { meaning_of E.Monoid.empty E.Coded.decoded self.new.cursor self.new.bytes.now ≡ stored (empty_item E.Monoid.empty) (item_joined E.Monoid.joined) (meaning_of E.Monoid.empty E.Coded.decoded self.old.cursor self.old.bytes.now) item }
         ensures lender { self.new.bytes.ghost_name ≡ self.old.bytes.ghost_name }
         ensures none { self.old.cursor.span ≡ 0 → self.new ≡ self.old }
-        ensures bytes { ring_well (number_of_kind E.Coded.kind) E.Coded.fault self.old → 0 < self.old.cursor.span → ring_bytes self.new ≡ recorded self.old.cursor (item_bytes E.Consolidation.amount E.Consolidation.weight item) (ring_bytes self.old) }
+        ensures bytes { 0 < self.old.cursor.span → self.new.bytes.now ≡ recorded self.old.cursor (item_bytes E.Consolidation.amount E.Consolidation.weight item) self.old.bytes.now }
     {
         let cursor = self.cursor;
         if cursor.span == 0 {
             return;
         }
-        if write_row(self.bytes, cursor.head, item) {
-            let next = cursor.next();
-            write_turn(self.bytes, next.held, next.head);
-            self.cursor = next;
-        }
+        write_row(self.bytes, cursor.head, item).unwrap();
+        let next = cursor.next();
+        write_turn(self.bytes, next.held, next.head);
+        self.cursor = next;
     }
 
     fn ask(&self, age: u32) -> Option<Item<E>> {
-        match self.cursor.place(age) {
-            Some(place) => row_at(self.bytes, place),
-            None => None,
-        }
+        let place = self.cursor.place(age)?;
+        row_at(self.bytes, place)
     }
 
     fn width(&self) -> u32 {

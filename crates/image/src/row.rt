@@ -5,13 +5,17 @@ ghost use Rattle.element.specs.Faults.{unless};
 ghost use Rattle.image.specs.Rows.{row_start, fault_at, item_at, WritesRow};
 
 use crate::header::HEADER;
-use crate::number::{read_u32, read_u64, write_u32, write_u64};
+use crate::number::{field, numbers, put_field, put_numbers};
 use consolidation::item::Item;
 use element::coded::Coded;
 use element::fault::ElementFault;
 
 // The bytes of a row.
 pub(crate) const ROW: usize = 20;
+
+// The bytes end before the row does.
+#[derive(Clone, Copy, PartialEq, Eq, Debug)]
+pub struct NoRow;
 
 // The first byte of the row at a place.
 pub(crate) fn row_start(place: u32) -> usize
@@ -26,11 +30,9 @@ pub(crate) fn read_row<E: Coded + Copy>(bytes: &[u8], place: u32) -> Result<Item
     ensures { result ≡ unless (fault_at E.Coded.fault bytes.now place) (item_at E.Coded.decoded bytes.now place) }
 {
     let start = row_start(place);
-    let amount = read_u64(bytes, start).cast_signed();
-    let weight = read_u32(bytes, start + 8);
+    let amount = i64::from_le_bytes(field(bytes, start));
+    let [weight, known, of] = numbers::<3>(bytes, start + 8);
     let element = E::decode(amount, weight)?;
-    let known = read_u32(bytes, start + 12);
-    let of = read_u32(bytes, start + 16);
     Ok(Item { element, known, of })
 }
 
@@ -44,18 +46,16 @@ pub(crate) fn row_at<E: Coded + Copy>(bytes: &[u8], place: u32) -> Option<Item<E
     read_row(bytes, place).ok()
 }
 
-// Writes an item into the row at a place, from which it is read back; false, and nothing is changed, where the bytes end before that row does.
-pub fn write_row<E: Coded + Copy>(bytes: &mut [u8], place: u32, item: Item<E>) -> bool
+// Writes an item into the row at a place, from which it is read back; where the bytes end before that row does, nothing is changed.
+pub fn write_row<E: Coded + Copy>(bytes: &mut [u8], place: u32, item: Item<E>) -> Result<(), NoRow>
     ensures { WritesRow E.Consolidation.amount E.Consolidation.weight E.Coded.fault E.Coded.decoded bytes.old place item result bytes.new }
 {
     let start = row_start(place);
     if bytes.len() < start + ROW {
-        return false;
+        return Err(NoRow);
     }
     let (amount, weight) = item.element.encode();
-    write_u64(bytes, start, amount.cast_unsigned());
-    write_u32(bytes, start + 8, weight);
-    write_u32(bytes, start + 12, item.known);
-    write_u32(bytes, start + 16, item.of);
-    true
+    put_field(bytes, start, amount.to_le_bytes());
+    put_numbers(bytes, start + 8, [weight, item.known, item.of]);
+    Ok(())
 }

@@ -1,3 +1,2 @@
 pub mod Coarsening
 pub mod Factors
-pub mod Limiting

@@ -1,8 +1,8 @@
 -- Groups of items that are kept as items by the archive below. Assumes nothing.
 use Rattle.std.specs.Prelude.{◌≡◌, ℕ, ◌+◌, ◌*◌, ◌<◌, ◌≤◌, Bool, cond, ◌||◌, nat_lt}
-use Rattle.std.proofs.Common.{arith, mul-le-mul_left, mul-add, mul-one}
+use Rattle.std.proofs.Common.{ap, ◌∙◌, arith, mul-le-mul_left, mul-le-mul_right, mul-add, mul-one}
+use Rattle.consolidation.specs.Laws.{Lawful}
 use Rattle.archive.specs.Meanings.{Meaning, Sound}
-use Rattle.layers.specs.declared.coarsen.Coarsen.{Coarsen}
 
 -- a factor that is not 1 to 1,000, or that makes a width above 1,000,000
 abbrev pub unfit : (factor width : ℕ) → Bool
@@ -24,10 +24,10 @@ coarser joined m factor count part = record {
 }
 
 -- what the groups over an archive keep to
-pub record Grouping {M : Type 0} (empty : M) (m : Meaning M) (factor count : ℕ) (part : M) : Type 0 where
+pub record Grouping {M : Type 0} (empty : M) (width factor count : ℕ) (part : M) : Type 0 where
   pub some_factor : 1 ≤ factor
   pub most_factor : factor ≤ 1000
-  pub most_width : factor * m.width ≤ 1000000
+  pub most_width : factor * width ≤ 1000000
   pub still_open : count < factor
   pub none_begun : count ≡ 0 → part ≡ empty
 
@@ -35,15 +35,17 @@ pub record Grouping {M : Type 0} (empty : M) (m : Meaning M) (factor count : ℕ
 pub group_within : (factor b w : ℕ) → b < w → factor * b + factor ≤ factor * w
 group_within factor b w h = omega (arith, mul-add factor b 1, mul-one factor, mul-le-mul_left {m = b + 1} {n = w} factor (omega arith))
 
-module _ {M A : Type 0} where
-  abbrev pub coarsen_well : (empty : M) → (A → Type 0) → (A → Meaning M) → Coarsen A M → Type 0
-  coarsen_well empty well meaning s = well s.below × Grouping empty (meaning s.below) s.factor s.count s.part
+-- with nothing begun, nothing is joined
+pub coarser_none : {M : Type 0} {empty : M} {joined : M → M → M} → Lawful empty joined → (m : Meaning M) (factor count : ℕ) (part : M) → Sound empty m → Grouping empty m.width factor count part
+    → factor * m.begun + count ≡ 0 → joined m.part part ≡ empty
+coarser_none {empty = empty} {joined} laws m factor count part s g none =
+    let more : 1 * m.begun ≤ factor * m.begun = mul-le-mul_right m.begun g.some_factor in
+    ap (λ p. joined p part) (s.none_begun (omega arith))
+    ∙ ap (joined empty) (g.none_begun (omega arith))
+    ∙ laws.left_unit empty
 
-  abbrev pub coarsen_meaning : (M → M → M) → (A → Meaning M) → Coarsen A M → Meaning M
-  coarsen_meaning joined meaning s = coarser joined (meaning s.below) s.factor s.count s.part
-
-pub coarser_sound : {M : Type 0} (empty : M) (joined : M → M → M) (m : Meaning M) (factor count : ℕ) (part : M) → Sound m → Grouping empty m factor count part → Sound (coarser joined m factor count part)
-coarser_sound empty joined m factor count part s g =
+pub coarser_sound : {M : Type 0} (empty : M) (joined : M → M → M) → Lawful empty joined → (m : Meaning M) (factor count : ℕ) (part : M) → Sound empty m → Grouping empty m.width factor count part → Sound empty (coarser joined m factor count part)
+coarser_sound empty joined laws m factor count part s g =
     let room = group_within factor m.begun m.width s.still_open in
     record {
       some_width = omega arith;
@@ -51,8 +53,6 @@ coarser_sound empty joined m factor count part s g =
       most_span = s.most_span;
       most_allowance = s.most_allowance;
       still_open = omega arith;
+      none_begun = coarser_none laws m factor count part s g;
       within_span = s.within_span;
     }
-
-pub coarsen_sound : {M A : Type 0} (empty : M) (joined : M → M → M) (well : A → Type 0) (meaning : A → Meaning M) → ((a : A) → well a → Sound (meaning a)) → (s : Coarsen A M) → coarsen_well empty well meaning s → Sound (coarsen_meaning joined meaning s)
-coarsen_sound empty joined well meaning sound s w = coarser_sound empty joined (meaning s.below) s.factor s.count s.part (sound s.below w.0) w.1

@@ -1,3 +1,2 @@
 pub mod Coarser
 pub mod Limited
-pub mod Twice

@@ -3,7 +3,6 @@ use Rattle.std.specs.Prelude.{ℕ, min, cond, nat_lt}
 use Rattle.std.proofs.Common.{le_trans}
 use Rattle.std.proofs.Math.Nat.{min-le_right}
 use Rattle.archive.specs.Meanings.{Meaning, Sound}
-use Rattle.layers.specs.declared.allowance.AllowanceLayer.{AllowanceLayer}
 
 -- an allowance is at most 1,000
 abbrev pub fit_allowance : ℕ → ℕ
@@ -20,19 +19,13 @@ limited allowance m = record {
   rows = m.rows;
 }
 
-module _ {A : Type 0} where
-  abbrev pub limited_well : (A → Type 0) → AllowanceLayer A → Type 0
-  limited_well well s = well s.below
-
-  abbrev pub limited_meaning : {M : Type 0} → (A → Meaning M) → AllowanceLayer A → Meaning M
-  limited_meaning meaning s = limited s.allowance (meaning s.below)
-
-pub limited_sound : {M : Type 0} (allowance : ℕ) (m : Meaning M) → Sound m → Sound (limited allowance m)
-limited_sound allowance m s = record {
+pub limited_sound : {M : Type 0} (empty : M) (allowance : ℕ) (m : Meaning M) → Sound empty m → Sound empty (limited allowance m)
+limited_sound empty allowance m s = record {
   some_width = s.some_width;
   most_width = s.most_width;
   most_span = s.most_span;
   most_allowance = le_trans (min-le_right allowance m.allowance) s.most_allowance;
   still_open = s.still_open;
+  none_begun = s.none_begun;
   within_span = s.within_span;
 }

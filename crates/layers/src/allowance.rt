@@ -2,7 +2,7 @@
 ghost use Rattle.std.specs.Prelude.{◌≡◌, nat_lt};
 ghost use Rattle.archive.specs.Refusals.{refused_if};
 ghost use Rattle.archive.specs.declared.refusal.Refusal.TheVariants.{Allowance};
-ghost use Rattle.layers.specs.Limited.{fit_allowance, limited, limited_well, limited_meaning, limited_sound};
+ghost use Rattle.layers.specs.Limited.{fit_allowance, limited, limited_sound};
 
 use archive::archive::Archive;
 use archive::entry::{WHOLE, show};
@@ -30,8 +30,7 @@ impl<A: Archive> AllowanceLayer<A> {
     // Where `check` refuses, it has the whole allowance.
     pub fn new(below: A, allowance: u32) -> AllowanceLayer<A>
         ensures below { result.below ≡ below }
-        ensures well { A.Archive.well below → limited_well A.Archive.well result }
-        ensures value { limited_meaning A.Archive.meaning result ≡ limited (fit_allowance allowance) (A.Archive.meaning below) }
+        ensures value { ⟦<AllowanceLayer<A> as Archive>⟧.meaning result ≡ limited (fit_allowance allowance) (A.Archive.meaning below) }
     {
         AllowanceLayer {
             below,
@@ -50,21 +49,17 @@ impl<A: Archive> AllowanceLayer<A> {
 impl<A: Archive> Archive for AllowanceLayer<A> {
     type Item = A::Item;
 
-    ghost well = { limited_well A.Archive.well };
+    ghost meaning = { λ s. limited s.allowance (A.Archive.meaning s.below) };
 
-    ghost meaning = { limited_meaning A.Archive.meaning };
-
-    ghost sound = { λ s w. limited_sound s.allowance (A.Archive.meaning s.below) (A.Archive.sound s.below w) };
+    ghost sound = { λ s. limited_sound A.Item.Monoid.empty s.allowance (A.Archive.meaning s.below) (A.Archive.sound s.below) };
 
     fn store(&mut self, item: A::Item) {
         self.below.store(item);
     }
 
     fn ask(&self, age: u32) -> Option<A::Item> {
-        match self.below.ask(age) {
-            Some(row) => Some(show(row, self.allowance)),
-            None => None,
-        }
+        let row = self.below.ask(age)?;
+        Some(show(row, self.allowance))
     }
 
     fn width(&self) -> u32 {

@@ -3,7 +3,7 @@ ghost use Rattle.std.specs.Prelude.{◌≡◌, ℕ, ◌*◌};
 ghost use Rattle.archive.specs.Meanings.{fresh};
 ghost use Rattle.archive.specs.Refusals.{refused_if};
 ghost use Rattle.archive.specs.declared.refusal.Refusal.TheVariants.{Factor};
-ghost use Rattle.layers.specs.Coarser.{unfit, fit_factor, coarser, coarsen_well, coarsen_meaning, coarsen_sound};
+ghost use Rattle.layers.specs.Coarser.{unfit, fit_factor, coarser, Grouping, coarser_sound};
 
 use archive::archive::Archive;
 use archive::refusal::Refusal;
@@ -23,6 +23,7 @@ pub struct Coarsen<A: Archive> {
     // The open group: how many items it has, and their joining.
     count: u32,
     part: A::Item,
+    ghost grouping: { Grouping A.Item.Monoid.empty (A.Archive.meaning below).width factor count part },
 }
 
 fn is_unfit(factor: u32, width: u32) -> bool
@@ -40,7 +41,7 @@ fn fit_factor(factor: u32, width: u32) -> u32
 impl<A: Archive> Coarsen<A> {
     // Refuses a factor that is not 1 to 1,000, or that makes a width above 1,000,000.
     pub fn check(below: &A, factor: u32) -> Result<(), Refusal>
-        ensures { A.Archive.well below.now → result ≡ refused_if (unfit factor (A.Archive.meaning below.now).width) Factor }
+        ensures { result ≡ refused_if (unfit factor (A.Archive.meaning below.now).width) Factor }
     {
         if is_unfit(factor, below.width()) {
             Err(Refusal::Factor)
@@ -52,9 +53,8 @@ impl<A: Archive> Coarsen<A> {
     // Where `check` refuses, the factor is 1: each item is stored as it is.
     pub fn new(below: A, factor: u32) -> Coarsen<A>
         ensures below { result.below ≡ below }
-        ensures well { A.Archive.well below → coarsen_well A.Item.Monoid.empty A.Archive.well A.Archive.meaning result }
-        ensures value { A.Archive.well below → coarsen_meaning A.Item.Monoid.joined A.Archive.meaning result ≡ coarser A.Item.Monoid.joined (A.Archive.meaning below) (fit_factor factor (A.Archive.meaning below).width) 0 A.Item.Monoid.empty }
-        ensures fresh { (width span allowance : ℕ) → A.Archive.well below → A.Archive.meaning below ≡ fresh A.Item.Monoid.empty width span allowance → coarsen_meaning A.Item.Monoid.joined A.Archive.meaning result ≡ fresh A.Item.Monoid.empty (fit_factor factor width * width) span allowance }
+        ensures value { ⟦<Coarsen<A> as Archive>⟧.meaning result ≡ coarser A.Item.Monoid.joined (A.Archive.meaning below) (fit_factor factor (A.Archive.meaning below).width) 0 A.Item.Monoid.empty }
+        ensures fresh { (width span allowance : ℕ) → A.Archive.meaning below ≡ fresh A.Item.Monoid.empty width span allowance → ⟦<Coarsen<A> as Archive>⟧.meaning result ≡ fresh A.Item.Monoid.empty (fit_factor factor width * width) span allowance }
     {
         let factor = fit_factor(factor, below.width());
         Coarsen {
@@ -76,11 +76,9 @@ impl<A: Archive> Coarsen<A> {
 impl<A: Archive> Archive for Coarsen<A> {
     type Item = A::Item;
 
-    ghost well = { coarsen_well A.Item.Monoid.empty A.Archive.well A.Archive.meaning };
+    ghost meaning = { λ s. coarser A.Item.Monoid.joined (A.Archive.meaning s.below) s.factor s.count s.part };
 
-    ghost meaning = { coarsen_meaning A.Item.Monoid.joined A.Archive.meaning };
-
-    ghost sound = { coarsen_sound A.Item.Monoid.empty A.Item.Monoid.joined A.Archive.well A.Archive.meaning A.Archive.sound };
+    ghost sound = { λ s. coarser_sound A.Item.Monoid.empty A.Item.Monoid.joined A.Item.Monoid.lawful (A.Archive.meaning s.below) s.factor s.count s.part (A.Archive.sound s.below) s.grouping };
 
     fn store(&mut self, item: A::Item) {
         let joined = self.part.join(item);

@@ -1,7 +1,7 @@
 // Groups of groups are groups.
 ghost use Rattle.std.specs.Prelude.{◌≡◌, ◌*◌, false};
 ghost use Rattle.layers.specs.Coarser.{unfit, coarser};
-ghost use Rattle.layers.specs.Twice.{BothWays};
+ghost use Rattle.archive.specs.Meanings.{stored_all};
 
 use crate::coarsen::Coarsen;
 use archive::archive::Archive;
@@ -18,7 +18,8 @@ pub fn coarsen_both_ways<K: Entry + Copy, A: Archive<Item = K>, B: Archive<Item 
     outer: u32,
     items: &[K],
 ) -> (Coarsen<Coarsen<A>>, Coarsen<B>)
-    ensures { A.Archive.well first → B.Archive.well second → A.Archive.meaning first ≡ B.Archive.meaning second → unfit (outer * inner) (B.Archive.meaning second).width ≡ false → BothWays K.Monoid.empty K.Monoid.joined A.Archive.well A.Archive.meaning B.Archive.well B.Archive.meaning (coarser K.Monoid.joined (B.Archive.meaning second) (outer * inner) 0 K.Monoid.empty) items.now result.0 result.1 }
+    ensures same { A.Archive.meaning first ≡ B.Archive.meaning second → unfit (outer * inner) (B.Archive.meaning second).width ≡ false → ⟦<Coarsen<Coarsen<A>> as Archive>⟧.meaning result.0 ≡ ⟦<Coarsen<B> as Archive>⟧.meaning result.1 }
+    ensures value { A.Archive.meaning first ≡ B.Archive.meaning second → unfit (outer * inner) (B.Archive.meaning second).width ≡ false → ⟦<Coarsen<B> as Archive>⟧.meaning result.1 ≡ stored_all K.Monoid.empty K.Monoid.joined (coarser K.Monoid.joined (B.Archive.meaning second) (outer * inner) 0 K.Monoid.empty) items.now }
 {
     let mut twice = Coarsen::new(Coarsen::new(first, inner), outer);
     let mut once = Coarsen::new(second, outer.wrapping_mul(inner));

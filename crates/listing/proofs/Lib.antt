@@ -1,4 +1,5 @@
 pub mod Lengths
 pub mod Listed
-pub mod Shown
 pub mod Texts
+pub mod Shown
+pub mod Refused

@@ -1,41 +1,29 @@
--- An image that is shown, or why it is not. Assumes nothing.
-use Rattle.std.proofs.Common.{◌≡◌, ℕ, ◌+◌, ◌<◌, ◌≤◌, List, length, Some, None, Ok, Err, Option, Result, sym, ap, ◌∙◌, subst, arith}
-use Rattle.std.specs.List.{flat_map}
-use Rattle.std.specs.Option.{ok_or}
+-- An image that is shown. Assumes nothing.
+use Rattle.std.proofs.Common.{◌≡◌, ℕ, ◌^◌, ◌<◌, ◌≤◌, List, length, get_or, ℤ, None, Ok, Err, Option, Result, IsErrAnd, sym, ap, ◌∙◌, subst}
+use Rattle.element.specs.declared.fault.ElementFault.{ElementFault}
 use Rattle.element.specs.declared.kind.Kind.{Kind}
 use Rattle.element.specs.Kinds.{number_of_kind}
-use Rattle.image.specs.declared.fault.ImageFault.{ImageFault}
-use Rattle.image.specs.Headers.{header_in, kind_read}
-use Rattle.image.specs.Images.{image_fault, places}
+use Rattle.image.specs.Images.{image_fault}
+use Rattle.lent_bytes.specs.declared.text.Text.{Text}
+use Rattle.lent_bytes.specs.Texts.{NoRoom}
 use Rattle.listing.specs.declared.stop.Stop.{Stop}
-use Rattle.listing.specs.declared.stop.Stop.TheVariants.{Fault, Full}
-use Rattle.listing.specs.Listing.{header_line, row_line, shown, element_fault, shown_unless, listing_of, listing}
-use Rattle.listing.specs.Shows.{Shows, ShowsAny}
-use Rattle.listing.specs.Texts.{Puts}
-use Rattle.listing.proofs.Texts.{puts_more, puts_short}
+use Rattle.listing.specs.declared.stop.Stop.TheVariants.{Full}
+use Rattle.listing.specs.Listing.{shown, shown_unless}
+use Rattle.listing.specs.Shows.{Shows}
+use Rattle.listing.proofs.Lengths.{shown_length}
 
-module _ (fault : Option ImageFault) (s before : List ℕ) (none : fault ≡ None) (most : length (shown s) ≤ 162018) where
-  -- the header stands, and then the rows
-  pub rows_shown : (at : ℕ) (t u : List ℕ) (r : Option ℕ) → Puts before 0 (header_line s) (Some at) t → Puts t at (flat_map (row_line s) (places (header_in s))) r u → Shows fault s before (ok_or r Full) u
-  rows_shown at t u (Some end) p q = (none, puts_more before t u 0 at (header_line s) _ (Some end) p q)
-  rows_shown at t u None p q =
-      let short = puts_more before t u 0 at (header_line s) (flat_map (row_line s) (places (header_in s))) None p q in
-      (none, omega (arith, short), omega (arith, short, most))
+-- the bytes s of an image that was opened are those that were given
+module _ (kind : Kind) (fault : ℤ → ℕ → Option ElementFault) {s bytes : List ℕ} (same : s ≡ bytes) (sound : image_fault (number_of_kind kind) fault s ≡ None) where
+  none : image_fault (number_of_kind kind) fault bytes ≡ None
+  none = subst (λ x. image_fault (number_of_kind kind) fault x ≡ None) same sound
 
-  -- the header does not fit
-  pub header_short : (u : List ℕ) → length before < 0 + length (header_line s) → Shows fault s before (Err Full) u
-  header_short u short =
-      let all = puts_short before 0 (header_line s) (flat_map (row_line s) (places (header_in s))) short in
-      (none, omega (arith, all), omega (arith, all, most))
+  pub listed : shown s ≡ shown_unless (image_fault (number_of_kind kind) fault bytes) bytes
+  listed = ap shown same ∙ ap (λ f. shown_unless f bytes) (sym none)
 
--- the listing is that of the kind that the bytes say
-pub kind_shown : (kind : Kind) (s before : List ℕ) (r : Result ℕ Stop) (after : List ℕ) → kind_read s ≡ Ok kind → Shows (image_fault (number_of_kind kind) (element_fault kind) s) s before r after → ShowsAny s before r after
-kind_shown kind s before r after is p =
-    let listed : (o : Option ImageFault) → image_fault (number_of_kind kind) (element_fault kind) s ≡ o → listing s ≡ shown_unless o s = λ o e. ap (λ k. listing_of k s) is ∙ ap (λ x. shown_unless x s) e in
-    elim r as (λ x. Shows (image_fault (number_of_kind kind) (element_fault kind) s) s before x after → ShowsAny s before x after) [
-      | Ok end ↦ λ q. subst (λ l. Puts before 0 l (Some end) after) (sym (listed None q.0)) q.1
-      | Err stop ↦ elim stop as (λ x. Shows (image_fault (number_of_kind kind) (element_fault kind) s) s before (Err x) after → ShowsAny s before (Err x) after) [
-        | Fault f ↦ λ q. (listed (Some f) q.0, q.1)
-        | Full ↦ λ q. (subst (λ l. length before < length l) (sym (listed None q.0)) q.1, q.2)
-      ]
-    ] p
+  -- what is shown does not fit
+  pub shows_full : ((i : ℕ) → get_or bytes i 0 < 2 ^ 8) → (before after : Text) (r : Result Unit Stop) → IsErrAnd r (λ e. e ≡ Full) → NoRoom before (shown s) → Shows (shown_unless (image_fault (number_of_kind kind) fault bytes) bytes) before r after
+  shows_full fits before after (Ok _) is short = absurd is
+  shows_full fits before after (Err e) is short =
+      let full : Shows (shown_unless (image_fault (number_of_kind kind) fault bytes) bytes) before (Err Full) after =
+      (subst (NoRoom before) listed short, subst (λ f. length (shown_unless f bytes) ≤ 162018) (sym none) (shown_length bytes fits kind fault none)) in
+      subst (λ e. Shows (shown_unless (image_fault (number_of_kind kind) fault bytes) bytes) before (Err e) after) (sym is) full

@@ -2,6 +2,7 @@
 use Rattle.std.specs.Prelude.{ℕ, List, [], ◌∷◌, ◌++◌, ℤ, pos, Some, None, Ok, Err, codes, Option, Result}
 use Rattle.std.specs.List.{flat_map}
 use Rattle.std.specs.Fmt.{signed_decimal}
+use Rattle.consolidation.specs.declared.item.Item.{Item}
 use Rattle.element.specs.declared.fault.ElementFault.{ElementFault}
 use Rattle.image.specs.declared.fault.ImageFault.{ImageFault}
 use Rattle.image.specs.declared.fault.ImageFault.TheVariants.{Length, Kind as KindFault, Span, Held, Head, Offset, Total, Element}
@@ -20,7 +21,11 @@ use Rattle.listing.specs.Lines.{line}
 abbrev pub header_line : List ℕ → List ℕ
 header_line s = line (codes "image") (pos (header_in s).kind ∷ pos (header_in s).span ∷ pos (header_in s).held ∷ [])
 
--- amount, weight, known and of, as the row at a place has them
+-- amount, weight, known and of, as an item tells them
+abbrev pub item_line : {E : Type 0} → (E → ℤ) → (E → ℕ) → Item E → List ℕ
+item_line amount weight x = line (signed_decimal (amount x.element)) (pos (weight x.element) ∷ pos x.known ∷ pos x.of ∷ [])
+
+-- the same, as the row at a place has them
 abbrev pub row_line : List ℕ → ℕ → List ℕ
 row_line s place = line (signed_decimal (amount_at s place)) (pos (weight_at s place) ∷ pos (known_at s place) ∷ pos (of_at s place) ∷ [])
 

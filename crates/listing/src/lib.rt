@@ -1,12 +1,12 @@
 // What the program `rows` prints of an image.
 #![tactic(auto)]
 
-ghost use Rattle.std.specs.Prelude.{◌≡◌, ◌≤◌, true, length, is_some};
+ghost use Rattle.std.specs.Prelude.{◌≡◌, ◌+◌, ◌≤◌, true, length, is_some, is_ok};
 ghost use Rattle.element.specs.Kinds.{number_of_kind};
 ghost use Rattle.image.specs.Images.{image_fault};
-ghost use Rattle.listing.specs.Listing.{listing};
-ghost use Rattle.listing.specs.Shows.{Shows, ShowsAny};
-ghost use Rattle.listing.specs.Texts.{Puts};
+ghost use Rattle.listing.specs.Listing.{listing, shown_unless};
+ghost use Rattle.listing.specs.Shows.{Shows};
+ghost use Rattle.listing.specs.Texts.{Puts, Extends};
 
 mod lines;
 mod stop;
@@ -18,6 +18,7 @@ use element::coded::Coded;
 use element::kind::Kind;
 use image::header::kind_of;
 use image::opened::Image;
+use lent_bytes::text::{Full, Text};
 use lines::{put_header, put_refusal, put_rows};
 use stop::Stop;
 
@@ -25,25 +26,36 @@ use stop::Stop;
 pub const MOST_TEXT: usize = 162_018;
 
 // The text of an image of one kind.
-fn show<E: Coded + Copy>(bytes: &[u8], out: &mut [u8]) -> Result<usize, Stop>
-    ensures { Shows (image_fault (number_of_kind E.Coded.kind) E.Coded.fault bytes.now) bytes.now out.old result out.new }
+fn show<E: Coded + Copy>(text: &mut Text, bytes: &[u8]) -> Result<(), Stop>
+    ensures { Shows (shown_unless (image_fault (number_of_kind E.Coded.KIND) E.Coded.fault bytes.now) bytes.now) text.old result text.new }
 {
     let image = Image::<E>::open(bytes)?;
-    match put_header(out, &image) {
-        Some(at) => put_rows(out, at, &image).ok_or(Stop::Full),
-        None => Err(Stop::Full),
-    }
+    put_header(text, &image)?;
+    put_rows(text, &image)?;
+    Ok(())
 }
 
 // The same of the kind that the image says it is of.
-fn show_any(bytes: &[u8], out: &mut [u8]) -> Result<usize, Stop>
-    ensures { ShowsAny bytes.now out.old result out.new }
+fn show_any(text: &mut Text, bytes: &[u8]) -> Result<(), Stop>
+    ensures { Shows (listing bytes.now) text.old result text.new }
 {
     match kind_of(bytes)? {
-        Kind::Min => show::<Min>(bytes, out),
-        Kind::Max => show::<Max>(bytes, out),
-        Kind::Last => show::<Last>(bytes, out),
-        Kind::Mean => show::<Mean>(bytes, out),
+        Kind::Min => show::<Min>(text, bytes),
+        Kind::Max => show::<Max>(text, bytes),
+        Kind::Last => show::<Last>(text, bytes),
+        Kind::Mean => show::<Mean>(text, bytes),
+    }
+}
+
+// The same, and a fault is listed too.
+fn put_listing(text: &mut Text, bytes: &[u8]) -> Result<(), Full>
+    ensures text { Extends text.old (listing bytes.now) result text.new }
+    ensures fits { text.old.end + 162018 ≤ length text.old.bytes.now → is_ok result ≡ true }
+{
+    match show_any(text, bytes) {
+        Ok(()) => Ok(()),
+        Err(Stop::Fault(fault)) => put_refusal(text, fault),
+        Err(Stop::Full) => Err(Full),
     }
 }
 
@@ -53,9 +65,7 @@ pub fn list(bytes: &[u8], out: &mut [u8]) -> Option<usize>
     ensures text { Puts out.old 0 (listing bytes.now) result out.new }
     ensures fits { 162018 ≤ length out.old → is_some result ≡ true }
 {
-    match show_any(bytes, out) {
-        Ok(end) => Some(end),
-        Err(Stop::Fault(fault)) => put_refusal(out, fault),
-        Err(Stop::Full) => None,
-    }
+    let mut text = Text::new(out);
+    put_listing(&mut text, bytes).ok()?;
+    Some(text.end())
 }

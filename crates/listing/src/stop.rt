@@ -1,10 +1,11 @@
 // Why a listing stops.
 ghost use Rattle.std.specs.Prelude.{◌≡◌};
-ghost use Rattle.listing.specs.declared.stop.Stop.TheVariants.{Fault};
+ghost use Rattle.listing.specs.declared.stop.Stop.TheVariants.{Fault, Full};
 
 use image::fault::ImageFault;
+use lent_bytes::text;
 
-#[derive(Clone, Copy)]
+#[derive(Clone, Copy, PartialEq, Eq, Debug)]
 pub(crate) enum Stop {
     Fault(ImageFault),
     // The text does not fit.
@@ -16,5 +17,13 @@ impl From<ImageFault> for Stop {
 
     fn from(fault: ImageFault) -> Stop {
         Stop::Fault(fault)
+    }
+}
+
+impl From<text::Full> for Stop {
+    ghost from_gives = { λ _ r. r ≡ Full };
+
+    fn from(_: text::Full) -> Stop {
+        Stop::Full
     }
 }

@@ -1,27 +1,25 @@
-// The parts of a line, put into bytes that are lent.
-ghost use Rattle.std.specs.Prelude.{◌≤◌, ◌∷◌, length};
+// The parts of a line, put at the end of a text.
+ghost use Rattle.std.specs.Prelude.{◌∷◌};
 ghost use Rattle.std.specs.Fmt.{signed_decimal};
 ghost use Rattle.listing.specs.Lines.{ending};
-ghost use Rattle.listing.specs.Texts.{Puts};
+ghost use Rattle.listing.specs.Texts.{Extends};
 
-use lent_bytes::put;
+use lent_bytes::text::{Full, Text};
 
 // A space and a number.
-fn put_spaced(out: &mut [u8], at: usize, number: i64) -> Option<usize>
-    ensures { Puts out.old at (32 ∷ signed_decimal number) result out.new }
+fn put_spaced(text: &mut Text, number: i64) -> Result<(), Full>
+    ensures { Extends text.old (32 ∷ signed_decimal number) result text.new }
 {
-    let at = put(out, at, b" ")?;
-    decimal::write(out, at, number)
+    text.put(b" ")?;
+    decimal::add(text, number)
 }
 
 // The rest of a line: numbers, each after a space, and the line's end.
-pub(crate) fn put_ending(out: &mut [u8], at: usize, numbers: &[i64]) -> Option<usize>
-    requires { at ≤ length out.old }
-    ensures { Puts out.old at (ending numbers.now) result out.new }
+pub(crate) fn put_ending(text: &mut Text, numbers: &[i64]) -> Result<(), Full>
+    ensures { Extends text.old (ending numbers.now) result text.new }
 {
-    let mut end = at;
     for number in numbers {
-        end = put_spaced(out, end, *number)?;
+        put_spaced(text, *number)?;
     }
-    put(out, end, b"\n")
+    text.put(b"\n")
 }

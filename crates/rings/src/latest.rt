@@ -26,7 +26,7 @@ impl<E: Consolidation + Copy> LatestRow<E> {
     }
 
     pub fn new() -> LatestRow<E>
-        ensures { of_latest E.Monoid.empty result ≡ fresh (empty_item E.Monoid.empty) 1 1 1000 }
+        ensures { ⟦<LatestRow<E> as Archive>⟧.meaning result ≡ fresh (empty_item E.Monoid.empty) 1 1 1000 }
     {
         LatestRow { row: None }
     }
@@ -35,11 +35,9 @@ impl<E: Consolidation + Copy> LatestRow<E> {
 impl<E: Consolidation + Copy> Archive for LatestRow<E> {
     type Item = Item<E>;
 
-    ghost well = { λ _. Unit {0} };
-
     ghost meaning = { of_latest E.Monoid.empty };
 
-    ghost sound = { λ s _. latest_sound E.Monoid.empty s };
+    ghost sound = { latest_sound E.Monoid.empty };
 
     fn store(&mut self, item: Item<E>) {
         self.row = Some(item);
@@ -70,9 +68,6 @@ impl<E: Consolidation + Copy> Archive for LatestRow<E> {
     }
 
     fn held(&self) -> u32 {
-        match self.row {
-            Some(_) => 1,
-            None => 0,
-        }
+        u32::from(self.row.is_some())
     }
 }

@@ -6,8 +6,8 @@ ghost use Rattle.archive.specs.Entries.{empty_item};
 ghost use Rattle.archive.specs.declared.refusal.Refusal.TheVariants.{Span};
 ghost use Rattle.archive.specs.Meanings.{fresh, stored};
 ghost use Rattle.archive.specs.Refusals.{refused_if};
-ghost use Rattle.archive.specs.Rings.{wrong_span, ring_span};
-ghost use Rattle.rings.specs.Records.{RingWell, of_ring, ring_sound, Recorded};
+ghost use Rattle.archive.specs.Rings.{wrong_span, ring_span, turned_on, Turning};
+ghost use Rattle.rings.specs.Records.{ring_meaning, ring_sound};
 
 use archive::archive::Archive;
 use archive::cursor::{Cursor, wrong_span};
@@ -22,6 +22,8 @@ use consolidation::monoid::Monoid;
 pub struct RecordRing<'a, E> {
     rows: &'a mut [Item<E>],
     cursor: Cursor,
+    ghost turning: { Turning cursor },
+    ghost span_is: { cursor.span ≡ ring_span (length rows.now) },
 }
 
 // Writes one place, if there is such a place.
@@ -31,18 +33,6 @@ fn put<E: Copy>(rows: &mut [Item<E>], place: u32, item: Item<E>)
     let place = place as usize;
     if place < rows.len() {
         rows[place] = item;
-    }
-}
-
-// Reads one place, if there is such a place.
-fn get<E: Copy>(rows: &[Item<E>], place: u32) -> Option<Item<E>>
-    ensures { (d : Item E) → result ≡ (if nat_lt place (length rows.now) then Some (slice_index_or rows.now place d) else None) }
-{
-    let place = place as usize;
-    if place < rows.len() {
-        Some(rows[place])
-    } else {
-        None
     }
 }
 
@@ -58,8 +48,7 @@ impl<'a, E: Consolidation + Copy> RecordRing<'a, E> {
 
     // Whatever the rows hold, the ring holds none of it.
     pub fn new(rows: &'a mut [Item<E>]) -> Self
-        ensures well { RingWell result }
-        ensures fresh { of_ring E.Monoid.empty result ≡ fresh (empty_item E.Monoid.empty) 1 (ring_span (length rows.old)) 1000 }
+        ensures fresh { ⟦<RecordRing<'a, E> as Archive>⟧.meaning result ≡ fresh (empty_item E.Monoid.empty) 1 (ring_span (length rows.old)) 1000 }
         ensures lender { result.rows.ghost_name ≡ rows.entry.ghost_name }
         ensures rows { result.rows.now ≡ rows.old }
     {
@@ -71,18 +60,16 @@ impl<'a, E: Consolidation + Copy> RecordRing<'a, E> {
 impl<'a, E: Consolidation + Copy> Archive for RecordRing<'a, E> {
     type Item = Item<E>;
 
-    ghost well = { RingWell };
+    ghost meaning = { λ s. ring_meaning E.Monoid.empty s.cursor s.rows.now };
 
-    ghost meaning = { of_ring E.Monoid.empty };
-
-    ghost sound = { ring_sound E.Monoid.empty };
+    ghost sound = { λ s. ring_sound E.Monoid.empty s.cursor s.rows.now s.turning s.span_is };
 
     // One place is written, in turn from place 0; with span 0 none is.
     fn store(&mut self, item: Item<E>)
-        ensures kept { RingWell self.old → RingWell self.new }
-        ensures value { RingWell self.old → of_ring E.Monoid.empty self.new ≡ stored (empty_item E.Monoid.empty) (item_joined E.Monoid.joined) (of_ring E.Monoid.empty self.old) item }
+        ensures value { ring_meaning E.Monoid.empty self.new.cursor self.new.rows.now ≡ stored (empty_item E.Monoid.empty) (item_joined E.Monoid.joined) (ring_meaning E.Monoid.empty self.old.cursor self.old.rows.now) item }
         ensures lender { self.new.rows.ghost_name ≡ self.old.rows.ghost_name }
-        ensures rows { Recorded self.old item self.new }
+        ensures rows { self.new.rows.now ≡ if nat_lt 0 self.old.cursor.span then slice_set self.old.rows.now self.old.cursor.head item else self.old.rows.now }
+        ensures cursor { self.new.cursor ≡ if nat_lt 0 self.old.cursor.span then turned_on self.old.cursor else self.old.cursor }
     {
         if self.cursor.span > 0 {
             let head = self.cursor.head;
@@ -92,10 +79,8 @@ impl<'a, E: Consolidation + Copy> Archive for RecordRing<'a, E> {
     }
 
     fn ask(&self, age: u32) -> Option<Item<E>> {
-        match self.cursor.place(age) {
-            Some(place) => get(self.rows, place),
-            None => None,
-        }
+        let place = self.cursor.place(age)?;
+        Some(self.rows[place as usize])
     }
 
     fn width(&self) -> u32 {

@@ -13,20 +13,9 @@ use layers::coarsen::Coarsen;
 use layers::twice::coarsen_both_ways;
 use rings::latest::LatestRow;
 use rings::record::RecordRing;
+use std::fmt::Debug;
 use std::process::Abort;
 use std::test::Fail;
-
-// The amount, the weight and the two counts of an item.
-type Row = (i64, u32, u32, u32);
-
-fn told<E: Consolidation + Copy>(item: Item<E>) -> Row {
-    (
-        item.element.amount(),
-        item.element.weight(),
-        item.known,
-        item.of,
-    )
-}
 
 // The point of a number: numbers go up and down, and each tenth is unknown.
 fn point<E: Consolidation + Copy>(number: u32) -> Item<E> {
@@ -46,15 +35,11 @@ fn point<E: Consolidation + Copy>(number: u32) -> Item<E> {
 
 // The points from one number to another, joined one by one.
 fn points<E: Consolidation + Copy>(from: u32, to: u32) -> Item<E> {
-    let mut all = Item::empty();
-    for number in from..to {
-        all = all.join(point(number));
-    }
-    all
+    (from..to).fold(Item::empty(), |all, number| all.join(point(number)))
 }
 
 // What it is to have been given the points before a number: width, span, rows and open row.
-fn stands<E: Consolidation + Copy, A: Archive<Item = Item<E>>>(
+fn stands<E: Consolidation + Copy + PartialEq + Debug, A: Archive<Item = Item<E>>>(
     rt: &impl Abort,
     archive: &A,
     width: u32,
@@ -74,18 +59,13 @@ fn stands<E: Consolidation + Copy, A: Archive<Item = Item<E>>>(
         given.wrapping_sub(open),
         "after {given} points"
     );
-    assert_eq!(rt;
-        told(archive.part()),
-        told(points::<E>(open, given)),
-        "after {given} points"
-    );
+    assert_eq!(rt; archive.part(), points(open, given), "after {given} points");
     assert!(rt; archive.ask(held).is_none(), "after {given} points");
     for age in 0..held {
-        let row = archive.ask(age).ok_or("no row")?;
         let end = open.wrapping_sub(age.wrapping_mul(width));
         assert_eq!(rt;
-            told(row),
-            told(points::<E>(end.wrapping_sub(width), end)),
+            archive.ask(age),
+            Some(points(end.wrapping_sub(width), end)),
             "after {given} points"
         );
     }
@@ -93,7 +73,7 @@ fn stands<E: Consolidation + Copy, A: Archive<Item = Item<E>>>(
 }
 
 // So it stands at every moment.
-fn runs<E: Consolidation + Copy, A: Archive<Item = Item<E>> + Drop>(
+fn runs<E: Consolidation + Copy + PartialEq + Debug, A: Archive<Item = Item<E>> + Drop>(
     rt: &impl Abort,
     mut archive: A,
     width: u32,
@@ -106,7 +86,7 @@ fn runs<E: Consolidation + Copy, A: Archive<Item = Item<E>> + Drop>(
     Ok(())
 }
 
-fn all_run<E: Coded + Copy>(
+fn all_run<E: Coded + Copy + PartialEq + Debug>(
     rt: &impl Abort,
     rows: &mut [Item<E>],
     none: &mut [Item<E>],
@@ -141,7 +121,7 @@ fn towers_join_groups(rt: HostRuntime) -> Result<(), Fail> {
 }
 
 // 5 over 12 and 60, over different ends, after the same points.
-fn both_ways<E: Consolidation + Copy>(
+fn both_ways<E: Consolidation + Copy + PartialEq + Debug>(
     rt: &impl Abort,
     rows: &mut [Item<E>],
     items: &[Item<E>],
@@ -153,17 +133,9 @@ fn both_ways<E: Consolidation + Copy>(
     stands(rt, &once, 60, 1, given)
 }
 
-fn first_points() -> [Item<Mean>; 125] {
-    let mut items = [Item::empty(); 125];
-    for number in 0..125 {
-        items[number] = point(number as u32);
-    }
-    items
-}
-
 #[test]
 fn five_over_twelve_is_sixty(rt: HostRuntime) -> Result<(), Fail> {
-    let items = first_points();
+    let items: [Item<Mean>; 125] = std::array::from_fn(|number| point(number as u32));
     for given in 0..125 {
         both_ways(&rt, &mut [Item::empty(); 1], &items[..given])?;
     }
@@ -171,33 +143,31 @@ fn five_over_twelve_is_sixty(rt: HostRuntime) -> Result<(), Fail> {
 }
 
 // 2 over an archive of width 4 that was given 7 points and has 3 of them in its open row: 6 of 8, and after two points more a row.
-fn goes_on<E: Consolidation + Copy, A: Archive<Item = Item<E>> + Drop>(
+fn goes_on<E: Consolidation + Copy + PartialEq + Debug, A: Archive<Item = Item<E>> + Drop>(
     rt: &impl Abort,
     mut low: A,
-) -> Result<(), Fail> {
+) {
     for number in 0..7 {
         low.store(point(number));
     }
     let mut high = Coarsen::new(low, 2);
     assert_eq!(rt; (high.width(), high.begun(), high.held()), (8, 6, 1));
-    assert_eq!(rt; told(high.part()), told(points::<E>(4, 7)));
+    assert_eq!(rt; high.part(), points(4, 7));
     high.store(point(7));
     assert_eq!(rt; (high.begun(), high.held()), (7, 1));
-    assert_eq!(rt; told(high.part()), told(points::<E>(4, 8)));
+    assert_eq!(rt; high.part(), points(4, 8));
     high.store(point(8));
     assert_eq!(rt; (high.begun(), high.held()), (0, 1));
-    let row = high.ask(0).ok_or("no row")?;
-    assert_eq!(rt; told(row), told(points::<E>(4, 9)));
-    Ok(())
+    assert_eq!(rt; high.ask(0), Some(points(4, 9)));
 }
 
 #[test]
-fn a_layer_goes_over_an_archive_that_is_not_fresh(rt: HostRuntime) -> Result<(), Fail> {
-    goes_on(&rt, Coarsen::new(LatestRow::<Mean>::new(), 4))
+fn a_layer_goes_over_an_archive_that_is_not_fresh(rt: HostRuntime) {
+    goes_on(&rt, Coarsen::new(LatestRow::<Mean>::new(), 4));
 }
 
 // Under an allowance of `below` and then one of `above` a row of these counts is shown as it is, or as unknown.
-fn shows<E: Consolidation + Copy>(
+fn shows<E: Consolidation + Copy + PartialEq + Debug>(
     rt: &impl Abort,
     below: u32,
     above: u32,
@@ -209,12 +179,18 @@ fn shows<E: Consolidation + Copy>(
         known,
         of,
     };
-    let expected = if as_it_is { told(row) } else { (0, 0, 0, of) };
     let low = AllowanceLayer::new(LatestRow::<E>::new(), below);
     let mut archive = AllowanceLayer::new(low, above);
     archive.store(row);
     assert_eq!(rt; archive.allowance(), below.min(above).min(1_000));
-    assert_eq!(rt; told(archive.ask(0).ok_or("no row")?), expected);
+    let shown = archive.ask(0).ok_or("no row")?;
+    if as_it_is {
+        assert_eq!(rt; shown, row);
+    } else {
+        let element = shown.element;
+        assert_eq!(rt; (element.amount(), element.weight()), (0, 0));
+        assert_eq!(rt; (shown.known, shown.of), (0, of));
+    }
     Ok(())
 }
 
@@ -234,21 +210,19 @@ fn unknown_beyond_the_allowance_is_unknown(rt: HostRuntime) -> Result<(), Fail> 
 }
 
 // The allowance is applied when a row is asked for, and not to what is stored.
-fn stores_all<E: Consolidation + Copy>(rt: &impl Abort) -> Result<(), Fail> {
+fn stores_all<E: Consolidation + Copy + PartialEq + Debug>(rt: &impl Abort) {
     let low = Coarsen::new(LatestRow::<E>::new(), 2);
     let mut archive = Coarsen::new(AllowanceLayer::new(low, 250), 2);
     for number in 8..12 {
         archive.store(point(number));
     }
-    let row = archive.ask(0).ok_or("no row")?;
-    assert_eq!(rt; told(row), told(points::<E>(8, 12)));
-    Ok(())
+    assert_eq!(rt; archive.ask(0), Some(points::<E>(8, 12)));
 }
 
 #[test]
-fn a_coarse_row_has_all_that_was_measured(rt: HostRuntime) -> Result<(), Fail> {
-    stores_all::<Last>(&rt)?;
-    stores_all::<Mean>(&rt)
+fn a_coarse_row_has_all_that_was_measured(rt: HostRuntime) {
+    stores_all::<Last>(&rt);
+    stores_all::<Mean>(&rt);
 }
 
 // Factors up to `most` fit over an archive of this width, and a layer with another factor joins nothing.

@@ -1,6 +1,7 @@
 // The ends, through many turns, over wrong buffers, and through an image's bytes to its listing.
 use archive::archive::Archive;
 use archive::refusal::Refusal;
+use archive::store_all::store_all;
 use consolidation::consolidation::Consolidation;
 use consolidation::item::Item;
 use consolidation::mean::Mean;
@@ -12,20 +13,9 @@ use image::ring::ImageRing;
 use listing::list;
 use rings::latest::LatestRow;
 use rings::record::RecordRing;
+use std::fmt::Debug;
 use std::process::Abort;
 use std::test::Fail;
-
-// The amount, the weight and the two counts of an item.
-type Row = (i64, u32, u32, u32);
-
-fn told<E: Consolidation + Copy>(item: Item<E>) -> Row {
-    (
-        item.element.amount(),
-        item.element.weight(),
-        item.known,
-        item.of,
-    )
-}
 
 // The item of a number below 1,000, unlike that of any other.
 fn item<E: Consolidation + Copy>(number: u32) -> Item<E> {
@@ -43,61 +33,60 @@ fn is_an_end<E: Consolidation + Copy, A: Archive<Item = Item<E>>>(
     span: u32,
 ) {
     assert_eq!(rt; (end.width(), end.span(), end.allowance()), (1, span, 1000));
-    assert_eq!(rt; (end.begun(), told(end.part())), (0, (0, 0, 0, 0)));
+    let part = end.part();
+    assert_eq!(rt; (part.element.amount(), part.element.weight()), (0, 0));
+    assert_eq!(rt; (end.begun(), part.known, part.of), (0, 0, 0));
 }
 
 // It holds the items of the numbers up to `newest`, so many of them, and no others.
-fn holds<E: Consolidation + Copy, A: Archive<Item = Item<E>>>(
+fn holds<E: Consolidation + Copy + PartialEq + Debug, A: Archive<Item = Item<E>>>(
     rt: &impl Abort,
     end: &A,
     newest: u32,
     held: u32,
-) -> Result<(), Fail> {
+) {
     assert_eq!(rt; end.held(), held);
     assert!(rt; end.ask(held).is_none());
     assert!(rt; end.ask(u32::MAX).is_none());
     for age in 0..held {
-        let row = end.ask(age).ok_or("no row")?;
-        assert_eq!(rt; told(row), told(item::<E>(newest.wrapping_sub(age))));
+        assert_eq!(rt; end.ask(age), Some(item(newest.wrapping_sub(age))));
     }
-    Ok(())
 }
 
 // Through many turns it holds the newest items, up to its span.
-fn turns<E: Consolidation + Copy, A: Archive<Item = Item<E>> + Drop>(
+fn turns<E: Consolidation + Copy + PartialEq + Debug, A: Archive<Item = Item<E>> + Drop>(
     rt: &impl Abort,
     mut end: A,
     span: u32,
-) -> Result<(), Fail> {
+) {
     is_an_end(rt, &end, span);
-    holds(rt, &end, 0, 0)?;
+    holds(rt, &end, 0, 0);
     for number in 0..23 {
         end.store(item(number));
         is_an_end(rt, &end, span);
-        holds(rt, &end, number, span.min(number + 1))?;
+        holds(rt, &end, number, span.min(number + 1));
     }
-    Ok(())
 }
 
 // Each end does, over the rows that are lent and over bytes.
-fn all_turn<E: Coded + Copy>(
+fn all_turn<E: Coded + Copy + PartialEq + Debug>(
     rt: &impl Abort,
     one: &mut [Item<E>],
     seven: &mut [Item<E>],
-) -> Result<(), Fail> {
-    turns(rt, LatestRow::<E>::new(), 1)?;
-    turns(rt, RecordRing::new(one), 1)?;
-    turns(rt, RecordRing::new(seven), 7)?;
-    turns(rt, ImageRing::<E>::new(&mut [9; 44]), 1)?;
-    turns(rt, ImageRing::<E>::new(&mut [9; 164]), 7)
+) {
+    turns(rt, LatestRow::<E>::new(), 1);
+    turns(rt, RecordRing::new(one), 1);
+    turns(rt, RecordRing::new(seven), 7);
+    turns(rt, ImageRing::<E>::new(&mut [9; 44]), 1);
+    turns(rt, ImageRing::<E>::new(&mut [9; 164]), 7);
 }
 
 #[test]
-fn ends_hold_the_newest(rt: HostRuntime) -> Result<(), Fail> {
-    all_turn::<Min>(&rt, &mut [Item::empty(); 1], &mut [Item::empty(); 7])?;
-    all_turn::<Max>(&rt, &mut [Item::empty(); 1], &mut [Item::empty(); 7])?;
-    all_turn::<Last>(&rt, &mut [Item::empty(); 1], &mut [Item::empty(); 7])?;
-    all_turn::<Mean>(&rt, &mut [Item::empty(); 1], &mut [Item::empty(); 7])
+fn ends_hold_the_newest(rt: HostRuntime) {
+    all_turn::<Min>(&rt, &mut [Item::empty(); 1], &mut [Item::empty(); 7]);
+    all_turn::<Max>(&rt, &mut [Item::empty(); 1], &mut [Item::empty(); 7]);
+    all_turn::<Last>(&rt, &mut [Item::empty(); 1], &mut [Item::empty(); 7]);
+    all_turn::<Mean>(&rt, &mut [Item::empty(); 1], &mut [Item::empty(); 7]);
 }
 
 #[test]
@@ -106,7 +95,7 @@ fn the_latest_row_is_always_laid_out(rt: HostRuntime) {
 }
 
 // Bytes that are refused stay as they are, and the ring over them holds nothing.
-fn stays<E: Coded + Copy>(rt: &impl Abort, bytes: &mut [u8], before: &[u8]) -> Result<(), Fail> {
+fn stays<E: Coded + Copy + PartialEq + Debug>(rt: &impl Abort, bytes: &mut [u8], before: &[u8]) {
     let len = bytes.len();
     assert_eq!(rt;
         ImageRing::<E>::check(bytes),
@@ -116,10 +105,9 @@ fn stays<E: Coded + Copy>(rt: &impl Abort, bytes: &mut [u8], before: &[u8]) -> R
     let mut ring = ImageRing::<E>::new(bytes);
     ring.store(item(7));
     is_an_end(rt, &ring, 0);
-    holds(rt, &ring, 7, 0)?;
+    holds(rt, &ring, 7, 0);
     assert!(rt; ring.open().is_none(), "{len} bytes");
     assert_eq!(rt; ring.bytes(), before, "{len} bytes");
-    Ok(())
 }
 
 #[test]
@@ -127,7 +115,7 @@ fn wrong_bytes_stay(rt: HostRuntime) -> Result<(), Fail> {
     for len in [0, 1, 23, 24, 25, 43, 45, 63, 60_023, 60_025, 60_044] {
         let mut bytes = vec![in rt.alloc(); 0xa5; len]?;
         let before = vec![in rt.alloc(); 0xa5; len]?;
-        stays::<Mean>(&rt, bytes.as_mut_slice(), before.as_slice())?;
+        stays::<Mean>(&rt, bytes.as_mut_slice(), before.as_slice());
         assert_eq!(rt; bytes.as_slice(), before.as_slice());
     }
     Ok(())
@@ -140,9 +128,7 @@ fn is_laid_out<E: Coded + Copy>(rt: &impl Abort, bytes: &mut [u8], span: u32) ->
     is_an_end(rt, &ring, span);
     let image = Image::<E>::open(ring.bytes())?;
     assert_eq!(rt; (image.span(), image.held()), (span, 0));
-    for byte in &ring.bytes()[24..] {
-        assert_eq!(rt; *byte, 0);
-    }
+    assert!(rt; ring.bytes()[24..].iter().all(|byte| *byte == 0));
     Ok(())
 }
 
@@ -156,22 +142,20 @@ fn right_bytes_are_laid_out(rt: HostRuntime) -> Result<(), Fail> {
 }
 
 // Rows of which there are none or too many are not written.
-fn rows_stay<E: Consolidation + Copy>(rt: &impl Abort, rows: &mut [Item<E>]) -> Result<(), Fail> {
+fn rows_stay<E: Consolidation + Copy + PartialEq + Debug>(rt: &impl Abort, rows: &mut [Item<E>]) {
     assert_eq!(rt; RecordRing::check(rows), Err(Refusal::Span));
     let mut ring = RecordRing::new(rows);
     ring.store(item(7));
     is_an_end(rt, &ring, 0);
-    holds(rt, &ring, 7, 0)
+    holds(rt, &ring, 7, 0);
 }
 
 #[test]
 fn wrong_rows_stay(rt: HostRuntime) -> Result<(), Fail> {
-    rows_stay::<Last>(&rt, &mut [])?;
+    rows_stay::<Last>(&rt, &mut []);
     let mut rows = vec![in rt.alloc(); item(1); 3_001]?;
-    rows_stay(&rt, rows.as_mut_slice())?;
-    for row in rows.as_slice() {
-        assert_eq!(rt; told(*row), told(item::<Last>(1)));
-    }
+    rows_stay(&rt, rows.as_mut_slice());
+    assert!(rt; rows.as_slice().iter().all(|row| *row == item(1)));
     assert_eq!(rt; RecordRing::<Last>::check(&rows.as_slice()[1..]), Ok(()));
     Ok(())
 }
@@ -184,9 +168,7 @@ fn lists<E: Coded + Copy>(
     expected: &str,
 ) -> Result<(), Fail> {
     let mut ring = ImageRing::<E>::new(bytes);
-    for item in items {
-        ring.store(*item);
-    }
+    store_all(&mut ring, items);
     let mut text = [0; 100];
     let end = list(ring.bytes(), &mut text).ok_or("too long")?;
     assert_eq!(rt; end, expected.len());

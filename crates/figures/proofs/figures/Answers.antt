@@ -15,7 +15,7 @@ returns c =
       last = search rules;
       shown = c.at_half.ensures ∙ ap Some (worked.three_known_of_five (mean_held (pos 7) 60));
       hidden = c.at_half-2.ensures ∙ ap Some (worked.two_known_of_five (mean_held (pos 7) 60));
-      width = c.width.ensures tower.well ∙ ap (λ m. m.width) tower.means;
-      rows = c.held.ensures tower.well ∙ ap (λ m. length m.rows) tower.means ∙ worked.one_row_of_sixty_one;
-      begun = c.begun.ensures tower.well ∙ ap (λ m. m.begun) tower.means ∙ worked.one_point_more;
+      width = c.width.ensures ∙ ap (λ m. m.width) tower;
+      rows = c.held.ensures ∙ ap (λ m. length m.rows) tower ∙ worked.one_row_of_sixty_one;
+      begun = c.begun.ensures ∙ ap (λ m. m.begun) tower ∙ worked.one_point_more;
     }

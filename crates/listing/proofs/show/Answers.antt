@@ -1,37 +1,25 @@
-use Rattle.std.proofs.Common.{◌≡◌, ◌≤◌, length, None, Err, sym, subst}
-use Rattle.std.specs.Option.{ok_or}
-use Rattle.element.specs.Kinds.{number_of_kind}
-use Rattle.image.specs.Images.{image_fault}
-use Rattle.image.specs.Opened.{bytes_of}
-use Rattle.listing.specs.declared.stop.Stop.TheVariants.{Full}
-use Rattle.listing.specs.Shows.{Shows}
-use Rattle.listing.specs.Listing.{shown}
-use Rattle.listing.proofs.Lengths.{shown_length}
-use Rattle.listing.proofs.Shown.{rows_shown, header_short}
+use Rattle.std.proofs.Common.{subst}
+use Rattle.lent_bytes.specs.Texts.{Grown}
+use Rattle.lent_bytes.proofs.Growing.{grown_more, grown_short}
+use Rattle.listing.specs.Listing.{header_line}
+use Rattle.listing.proofs.Shown.{listed, shows_full}
+use Rattle.listing.proofs.Texts.{too_short}
 use Rattle.listing.proofs.show.Goals as goal
 
-pub returns-in-Some : goal.returns-in-Some
-returns-in-Some g c =
-    let kind = number_of_kind g.E.Coded.kind in
-    let fault = g.E.Coded.fault in
-    let before = c.args.out.now in
-    let after = c.put_rows.new.out in
+pub returns-in_err-put_header : goal.returns-in_err-put_header
+returns-in_err-put_header g c =
     let image = c.in_ok-image.ensures in
-    let s = bytes_of c.in_ok-image.image in
-    let none = subst (λ x. image_fault kind fault x ≡ None) image.of_bytes image.opened.sound in
-    let most = subst (λ x. length (shown x) ≤ 162018) (sym image.of_bytes) (shown_length c.args.bytes.now (λ i. (c.type_inv.bytes i).fits) g.E.Coded.kind fault none) in
-    let shows = rows_shown (image_fault kind fault s) s before image.opened.sound most c.in-Some.at c.put_header.new.out after c.put_rows.result (c.in-Some.ensures image.opened) (c.put_rows.ensures image.opened) in
-    rw c.ok_or.ensures.value (subst (λ x. Shows (image_fault kind fault x) x before (ok_or c.put_rows.result Full) after) image.of_bytes shows)
+    shows_full g.E.Coded.KIND g.E.Coded.fault image.bytes c.in_ok-image.image.opened.sound (λ i. (c.type_inv.bytes i).fits) c.args.text.now c.put_header.new.text c.from_residual-in_err-put_header.result c.from_residual-in_err-put_header.ensures.1
+    (too_short c.args.text.now (header_line c.in_ok-image.image.bytes.now) _ c.in_err-put_header.ensures)
 
-pub returns-in-None : goal.returns-in-None
-returns-in-None g c =
-    let kind = number_of_kind g.E.Coded.kind in
-    let fault = g.E.Coded.fault in
-    let before = c.args.out.now in
-    let after = c.put_header.new.out in
+pub returns-in_err-put_rows : goal.returns-in_err-put_rows
+returns-in_err-put_rows g c =
     let image = c.in_ok-image.ensures in
-    let s = bytes_of c.in_ok-image.image in
-    let none = subst (λ x. image_fault kind fault x ≡ None) image.of_bytes image.opened.sound in
-    let most = subst (λ x. length (shown x) ≤ 162018) (sym image.of_bytes) (shown_length c.args.bytes.now (λ i. (c.type_inv.bytes i).fits) g.E.Coded.kind fault none) in
-    subst (λ x. Shows (image_fault kind fault x) x before (Err Full) after) image.of_bytes
-    (header_short (image_fault kind fault s) s before image.opened.sound most after (c.in-None.ensures image.opened))
+    shows_full g.E.Coded.KIND g.E.Coded.fault image.bytes c.in_ok-image.image.opened.sound (λ i. (c.type_inv.bytes i).fits) c.args.text.now c.put_rows.new.text c.from_residual-in_err-put_rows.result c.from_residual-in_err-put_rows.ensures.1
+    (grown_short _ c.in_ok-put_header.ensures c.in_err-put_rows.ensures)
+
+pub returns : goal.returns
+returns g c =
+    let image = c.in_ok-image.ensures in
+    subst (λ l. Grown c.args.text.now l c.put_rows.new.text) (listed g.E.Coded.KIND g.E.Coded.fault image.bytes c.in_ok-image.image.opened.sound)
+    (grown_more c.in_ok-put_header.ensures c.in_ok-put_rows.ensures)

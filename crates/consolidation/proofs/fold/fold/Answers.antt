@@ -1,16 +1,12 @@
-use Rattle.std.proofs.Common.{fold, ap, ◌∙◌, take_all, rules}
-use Rattle.std.proofs.lemmas.List.Sums.{fold_more}
-use Rattle.consolidation.proofs.Folds.{fold-append}
+use Rattle.std.proofs.Common.{◌≡◌, List, [], ◌∷◌, fold, sym, arith}
+use Rattle.std.proofs.lemmas.Grind.{common_steps}
+use Rattle.consolidation.specs.Laws.{Lawful}
 use Rattle.consolidation.proofs.fold.fold.Goals as goal
 
-pub loop-item-preserved : goal.loop-item-preserved
-loop-item-preserved g c = search (rules, fold_more)
+-- what comes before the list stays before it
+folded_from : {M : Type 0} {empty : M} {joined : M → M → M} → Lawful empty joined → (x : M) (ys : List M) → fold joined x ys ≡ joined x (fold joined empty ys)
+folded_from laws x [] = sym (laws.right_unit x)
+folded_from {joined = joined} laws x (y ∷ ys) = rw (laws.left_unit, folded_from laws (joined x y) ys, folded_from laws y ys) (laws.associative x y _)
 
-pub returns : goal.returns
-returns g c =
-    let m = g.M.Monoid in
-    let all = c.loop-item.invariant ∙ ap (fold m.joined m.empty) (take_all _ _ c.loop-item-test.false) in
-    record {
-      value = all;
-      parts = λ xs ys is. all ∙ ap (fold m.joined m.empty) is ∙ fold-append g.met.M.Monoid.lawful m.empty xs ys;
-    }
+pub returns-clause-parts : goal.returns-clause-parts
+returns-clause-parts g c xs ys is = grind (arith, common_steps, folded_from g.met.M.Monoid.lawful)

@@ -1,5 +1,4 @@
-use Rattle.std.proofs.Common.{length, Ok, sym, ap, ◌∙◌}
-use Rattle.element.specs.Faults.{unless}
+use Rattle.std.proofs.Common.{length, sym, ap, ◌∙◌}
 use Rattle.image.specs.Headers.{header_in, length_fault, header_fault, front_fault}
 use Rattle.element.specs.Kinds.{number_of_kind}
 use Rattle.image.proofs.Faults.{or_second, unless_ok, unless_some}
@@ -12,11 +11,3 @@ returns-in-Some c =
     let long = unless_ok (length_fault (length s)) _ _ (sym c.check_length.ensures ∙ c.in_ok-check_length.was) in
     let found = ap (header_fault kind (length s)) (sym c.read_header-header.ensures) ∙ sym c.in-Some.ensures in
     unless_some (front_fault kind s) (header_in s) c.in-Some.fault (or_second (length_fault (length s)) _ long ∙ found)
-
-pub returns-in-None : goal.returns-in-None
-returns-in-None c =
-    let s = c.args.bytes.now in
-    let kind = number_of_kind c.args.kind in
-    let long = unless_ok (length_fault (length s)) _ _ (sym c.check_length.ensures ∙ c.in_ok-check_length.was) in
-    let found = ap (header_fault kind (length s)) (sym c.read_header-header.ensures) ∙ sym c.in-None.ensures in
-    ap Ok c.read_header-header.ensures ∙ sym (ap (λ o. unless o (header_in s)) (or_second (length_fault (length s)) _ long ∙ found))

@@ -21,26 +21,26 @@ header named kind s h same e = accepted (number_of_kind kind) s h (of_kind named
 pub returns-in_err-header : goal.returns-in_err-header
 returns-in_err-header g c =
     let s = c.args.bytes.now in
-    let kind = g.E.Coded.kind in
+    let kind = g.E.Coded.KIND in
     let p = err_from_is_err_and c.from_residual.result c.from_residual.ensures.1 in
-    rw (p.1, p.2) (refused_front (number_of_kind kind) s g.E.Coded.fault _ (of_kind c.kind.result kind s _ c.kind.ensures c.in_err-header.ensures))
+    rw (p.1, p.2) (refused_front (number_of_kind kind) s g.E.Coded.fault _ (of_kind c.KIND.result kind s _ c.KIND.ensures c.in_err-header.ensures))
 
 pub check_row-requires : goal.check_row-requires
 check_row-requires g c =
     let s = c.args.bytes.now in
-    let kind = g.E.Coded.kind in
+    let kind = g.E.Coded.KIND in
     let h = c.in_ok-header.header in
-    row_within (number_of_kind kind) s h c.loop-place.place (header c.kind.result kind s h c.kind.ensures c.in_ok-header.ensures) c.loop-place-test.true
+    row_within (number_of_kind kind) s h c.loop-place.place (header c.KIND.result kind s h c.KIND.ensures c.in_ok-header.ensures) c.loop-place-test.true
 
 pub returns-in_err-check_row : goal.returns-in_err-check_row
 returns-in_err-check_row g c =
     let s = c.args.bytes.now in
-    let kind = g.E.Coded.kind in
+    let kind = g.E.Coded.KIND in
     let h = c.in_ok-header.header in
     let p = err_from_is_err_and c.from_residual-in_err-check_row.result c.from_residual-in_err-check_row.ensures.1 in
     rw (p.1, p.2)
     (refused_row (number_of_kind kind) s g.E.Coded.fault h c.loop-place.place _
-    (header c.kind.result kind s h c.kind.ensures c.in_ok-header.ensures) c.loop-place-test.true c.loop-place.invariant (sym c.in_err-check_row.ensures))
+    (header c.KIND.result kind s h c.KIND.ensures c.in_ok-header.ensures) c.loop-place-test.true c.loop-place.invariant (sym c.in_err-check_row.ensures))
 
 pub loop-place-preserved : goal.loop-place-preserved
 loop-place-preserved g c =

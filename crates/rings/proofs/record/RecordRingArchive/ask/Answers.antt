@@ -1,18 +1,23 @@
-use Rattle.std.proofs.Common.{◌∙◌}
+use Rattle.std.proofs.Common.{sym, ◌∙◌, arith}
 use Rattle.archive.specs.Entries.{empty_item, item_counts}
+use Rattle.archive.proofs.Ringing.{place_held}
 use Rattle.archive.proofs.Turned.{ring_found, ring_missing}
 use Rattle.rings.specs.Records.{held_within}
 use Rattle.rings.proofs.record.RecordRingArchive.ask.Goals as goal
 
-pub returns-in-Some : goal.returns-in-Some
-returns-in-Some g c w =
+pub bounds-self-place : goal.bounds-self-place
+bounds-self-place g c =
     let s = c.args.self.now in
-    let empty = g.E.Monoid.empty in
-    c.get.ensures (empty_item empty)
-    ∙ ring_found s.cursor s.rows.now w.turning (empty_item empty) (item_counts empty) c.args.age c.in-Some.place (held_within s w) (c.in-Some.ensures w.turning)
+    omega (arith, held_within s.cursor s.rows.now s.turning s.span_is, place_held s.cursor c.args.age c.in_ok-place.place s.turning (sym (c.place.ensures s.turning) ∙ c.in_ok-place.was))
 
-pub returns-in-None : goal.returns-in-None
-returns-in-None g c w =
+pub returns : goal.returns
+returns g c =
     let s = c.args.self.now in
     let empty = g.E.Monoid.empty in
-    ring_missing s.cursor s.rows.now w.turning (empty_item empty) (item_counts empty) c.args.age (held_within s w) (c.in-None.ensures w.turning)
+    ring_found s.cursor s.rows.now s.turning (empty_item empty) (item_counts empty) c.args.age c.in_ok-place.place c.index-self-place.result (held_within s.cursor s.rows.now s.turning s.span_is) (sym (c.place.ensures s.turning) ∙ c.in_ok-place.was)
+
+pub returns-in_err-place : goal.returns-in_err-place
+returns-in_err-place g c =
+    let s = c.args.self.now in
+    let empty = g.E.Monoid.empty in
+    c.from_residual.ensures ∙ ring_missing s.cursor s.rows.now s.turning (empty_item empty) (item_counts empty) c.args.age (held_within s.cursor s.rows.now s.turning s.span_is) (sym (c.place.ensures s.turning) ∙ c.in_err-place.was)
