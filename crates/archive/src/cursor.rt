@@ -51,6 +51,7 @@ impl Cursor {
     }
 
     // The place of the row of an age, 0 for the newest; none past the oldest.
+    // `Turning` is kept by each ring and is no ghost field here: a struct with a `&mut` that holds such a one gets no proof at a bound.
     pub fn place(self, age: u32) -> Option<u32>
         ensures { Turning self → result ≡ age_place self age }
     {

@@ -9,7 +9,7 @@ ghost use Rattle.std.specs.Fmt.{signed_decimal};
 use lent_bytes::put;
 use lent_bytes::text::{Full, Text};
 
-// The most bytes that an `i64` takes, a sign and nineteen digits; a `u64` takes no more.
+// The most bytes that an `i64` takes, a sign and nineteen digits; a `u64` takes no more. No memory is had for it.
 const LONGEST: usize = 20;
 
 // Spells `value` at the end of `scratch`, and answers where it begins.

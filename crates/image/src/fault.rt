@@ -41,7 +41,7 @@ impl ImageFault {
         }
     }
 
-    // The first byte of what is at fault.
+    // The first byte of what is at fault, which is where that stands and no number of the fault.
     pub fn byte(self) -> u32
         ensures { result ≡ byte_of_fault self }
     {
@@ -68,7 +68,7 @@ impl From<BadElement> for ImageFault {
 impl From<UnknownKind> for ImageFault {
     ghost from_gives = { λ _ r. r ≡ Kind };
 
-    fn from(_kind: UnknownKind) -> ImageFault {
-        ImageFault::Kind
+    fn from(_kind: UnknownKind) -> Self {
+        Self::Kind
     }
 }

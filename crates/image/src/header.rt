@@ -22,6 +22,7 @@ pub const MOST_BYTES: usize = HEADER + ROW * MOST_ROWS as usize;
 
 #[derive(Clone, Copy, PartialEq, Eq, Debug)]
 pub struct Header {
+    // As the bytes have it, which may be no kind's.
     pub(crate) kind: u32,
     // How many rows there is room for.
     pub(crate) span: u32,

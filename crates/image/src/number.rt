@@ -1,4 +1,4 @@
-// Numbers as bytes, the lowest byte first.
+// Numbers as bytes, the lowest byte first, each at its place in the format.
 ghost use Rattle.std.specs.Prelude.{◌≡◌, ◌+◌, ◌*◌, ◌≤◌, length, map, take, drop};
 ghost use Rattle.std.specs.List.{flat_map, range_with_len};
 ghost use Rattle.lent_bytes.specs.Placed.{placed};

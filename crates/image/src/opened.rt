@@ -67,7 +67,7 @@ fn check<E: Coded + Copy>(bytes: &[u8]) -> Result<Header, ImageFault>
     Ok(header)
 }
 
-// Where the row of an index stands, the oldest being the first.
+// Where the row of an index stands, the oldest being the first. A `Cursor` counts from the newest, and a header is none.
 fn place_of(head: u32, held: u32, index: u32) -> u32
     requires { (head ≤ held) × (index < held) }
     ensures { result ≡ place_of head held index }
@@ -107,6 +107,7 @@ impl<'a, E: Coded + Copy> Image<'a, E> {
         }
     }
 
+    // An image that is opened answers as an end does, and is no archive, since it has no store.
     // How many items make one row.
     pub fn width(&self) -> u32
         ensures { result ≡ (image_meaning E.Monoid.empty E.Coded.decoded self.now.bytes.now).width }

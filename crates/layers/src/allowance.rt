@@ -66,6 +66,7 @@ impl<A: Archive> Archive for AllowanceLayer<A> {
         self.below.width()
     }
 
+    // Told as below, here and in the other layer: with one impl for both, code that is generic over archives gets no proof.
     fn span(&self) -> u32 {
         self.below.span()
     }

@@ -35,7 +35,7 @@ fn show<E: Coded + Copy>(text: &mut Text, bytes: &[u8]) -> Result<(), Stop>
     Ok(())
 }
 
-// The same of the kind that the image says it is of.
+// The same of the kind that the image says it is of. Each arm is at another type, which no closure could pick.
 fn show_any(text: &mut Text, bytes: &[u8]) -> Result<(), Stop>
     ensures { Shows (listing bytes.now) text.old result text.new }
 {

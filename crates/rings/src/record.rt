@@ -83,6 +83,7 @@ impl<'a, E: Consolidation + Copy> Archive for RecordRing<'a, E> {
         Some(self.rows[place as usize])
     }
 
+    // Here and in the other ends alike: with one impl for all ends, code that is generic over layers gets no proof.
     fn width(&self) -> u32 {
         1
     }
