@@ -1,5 +1,5 @@
 -- What an archive is told by, and what each call makes of it. Assumes nothing.
-use Rattle.std.specs.Prelude.{◌≡◌, ℕ, ◌+◌, ◌-◌, ◌<◌, ◌≤◌, cond, List, [], ◌∷◌, ◌++◌, length, drop, Some, None, fold, Option, nat_lt, slice_index_or}
+use Rattle.std.specs.Prelude.{ℕ, ◌+◌, ◌-◌, ◌<◌, ◌≤◌, cond, List, [], ◌∷◌, ◌++◌, length, drop, Some, None, fold, Option, nat_lt, slice_index_or}
 use Rattle.archive.specs.Entries.{Counted, shown}
 
 pub record Meaning (M : Type 0) : Type 0 where
@@ -15,14 +15,13 @@ pub record Meaning (M : Type 0) : Type 0 where
   -- the rows that are held, the oldest first
   pub rows : List M
 
--- the ranges of all that; empty is the empty item
-pub record Sound {M : Type 0} (empty : M) (m : Meaning M) : Type 0 where
+-- the ranges of all that
+pub record Sound {M : Type 0} (m : Meaning M) : Type 0 where
   pub some_width : 1 ≤ m.width
   pub most_width : m.width ≤ 1000000
   pub most_span : m.span ≤ 3000
   pub most_allowance : m.allowance ≤ 1000
   pub still_open : m.begun < m.width
-  pub none_begun : m.begun ≡ 0 → m.part ≡ empty
   pub within_span : length m.rows ≤ m.span
 
 -- the last n of xs, in their order; all of them where there are fewer

@@ -37,12 +37,13 @@ pub trait Archive {
 
     // The joining of these; the empty item when there is none.
     fn part(&self) -> Self::Item
-        ensures { result ≡ (meaning self.now).part };
+        ensures none { (meaning self.now).begun ≡ 0 → result ≡ Self.Item.Monoid.empty }
+        ensures value { result ≡ (meaning self.now).part };
 
     // How many rows are held.
     fn held(&self) -> u32
         ensures { result ≡ length (meaning self.now).rows };
 
     // The ranges hold of every archive, and with nothing begun the open row is empty.
-    ghost sound: { (s : Self) → Sound Self.Item.Monoid.empty (meaning s) };
+    ghost sound: { (s : Self) → Sound (meaning s) };
 }

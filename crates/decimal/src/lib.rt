@@ -1,7 +1,7 @@
 // Writes a number in decimal into bytes that are lent, or at the end of a text.
 #![tactic(auto)]
 
-ghost use Rattle.std.specs.Prelude.{◌≡◌, ◌+◌, length, drop, decimal};
+ghost use Rattle.std.specs.Prelude.{◌≡◌, ◌+◌, ◌≤◌, length, drop, decimal};
 ghost use Rattle.lent_bytes.specs.Placed.{Writes};
 ghost use Rattle.lent_bytes.specs.Texts.{Adds};
 ghost use Rattle.std.specs.Fmt.{signed_decimal};
@@ -11,6 +11,30 @@ use lent_bytes::text::{Full, Text};
 
 // The most bytes that an `i64` takes, a sign and nineteen digits; a `u64` takes no more. No memory is had for it.
 const LONGEST: usize = 20;
+
+// A number that is spelled at the end of a scratch.
+#[derive(Drop)]
+struct Spelled {
+    scratch: [u8; LONGEST],
+    start: usize,
+    ghost within: { start ≤ length scratch },
+}
+
+impl Spelled {
+    fn new(value: i64) -> Spelled
+        ensures { drop result.start result.scratch ≡ signed_decimal value }
+    {
+        let mut scratch = [0; LONGEST];
+        let start = spell(&mut scratch, value);
+        Spelled { scratch, start }
+    }
+
+    fn bytes(&self) -> &[u8]
+        ensures { result.now ≡ drop self.now.start self.now.scratch }
+    {
+        &self.scratch[self.start..]
+    }
+}
 
 // Spells `value` at the end of `scratch`, and answers where it begins.
 fn spell_digits(scratch: &mut [u8; LONGEST], value: u64) -> usize
@@ -44,21 +68,18 @@ fn spell(scratch: &mut [u8; LONGEST], value: i64) -> usize
 }
 
 // Writes `value` in decimal at the place `at` of `out`, and answers the place after it; where it does not fit, nothing is changed.
+// Any place may be asked for, as of `put`.
 pub fn write(out: &mut [u8], at: usize, value: i64) -> Option<usize>
     ensures { Writes out.old at (signed_decimal value) result out.new }
 {
-    let mut scratch = [0; LONGEST];
-    let start = spell(&mut scratch, value);
-    put(out, at, &scratch[start..])
+    put(out, at, Spelled::new(value).bytes())
 }
 
 // The same at the end of a text.
 pub fn add(text: &mut Text, value: i64) -> Result<(), Full>
     ensures { Adds text.old (signed_decimal value) result text.new }
 {
-    let mut scratch = [0; LONGEST];
-    let start = spell(&mut scratch, value);
-    text.put(&scratch[start..])
+    text.put(Spelled::new(value).bytes())
 }
 
 #[cfg(test)]

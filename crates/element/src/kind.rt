@@ -30,12 +30,9 @@ impl TryFrom<u32> for Kind {
     ghost try_from_gives = { Numbers };
 
     fn try_from(number: u32) -> Result<Kind, UnknownKind> {
-        match number {
-            1 => Ok(Kind::Min),
-            2 => Ok(Kind::Max),
-            3 => Ok(Kind::Last),
-            4 => Ok(Kind::Mean),
-            _ => Err(UnknownKind(number)),
-        }
+        [Kind::Min, Kind::Max, Kind::Last, Kind::Mean]
+            .into_iter()
+            .find(|kind| kind.number() == number)
+            .ok_or(UnknownKind(number))
     }
 }

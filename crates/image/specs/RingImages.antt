@@ -22,7 +22,7 @@ module _ {E : Type 0} (empty : E) (decoded : ℤ → ℕ → E) (c : Cursor) (s 
       ring_length c all_slots (omega arith)
 
   -- and keeps to the ranges
-  pub ring_sound : Turning c → Sound (empty_item empty) (meaning_of empty decoded c s)
+  pub ring_sound : Turning c → Sound (meaning_of empty decoded c s)
   ring_sound turning =
       let held = ring_held turning in
       let within = turning.within in

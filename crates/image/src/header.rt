@@ -34,6 +34,7 @@ pub struct Header {
     pub(crate) total: u32,
 }
 
+// Here and below the room is asked for, of bytes whose length was checked: a type for such bytes would be made anew at each call.
 fn read_header(bytes: &[u8]) -> Header
     requires { 24 ≤ length bytes.now }
     ensures { result ≡ header_in bytes.now }
@@ -82,22 +83,31 @@ fn check_length(len: usize) -> Result<(), ImageFault>
 }
 
 impl Header {
-    fn kind_fault(&self, kind: Kind) -> Option<ImageFault>
-        ensures { result ≡ kind_fault (number_of_kind kind) self.now }
+    fn check_kind(&self, kind: Kind) -> Result<(), ImageFault>
+        ensures { result ≡ unless (kind_fault (number_of_kind kind) self.now) tt }
     {
-        (self.kind != kind.number()).then_some(ImageFault::Kind)
+        if self.kind != kind.number() {
+            return Err(ImageFault::Kind);
+        }
+        Ok(())
     }
 
-    fn span_fault(&self) -> Option<ImageFault>
-        ensures { result ≡ span_fault self.now }
+    fn check_span(&self) -> Result<(), ImageFault>
+        ensures { result ≡ unless (span_fault self.now) tt }
     {
-        (self.span < 1 || self.span > MOST_ROWS).then_some(ImageFault::Span)
+        if self.span < 1 || self.span > MOST_ROWS {
+            return Err(ImageFault::Span);
+        }
+        Ok(())
     }
 
-    fn held_fault(&self) -> Option<ImageFault>
-        ensures { result ≡ held_fault self.now }
+    fn check_held(&self) -> Result<(), ImageFault>
+        ensures { result ≡ unless (held_fault self.now) tt }
     {
-        (self.held > self.span).then_some(ImageFault::Held)
+        if self.held > self.span {
+            return Err(ImageFault::Held);
+        }
+        Ok(())
     }
 
     // Until the ring is full, the next place is the one after the rows held; then it goes round.
@@ -111,35 +121,44 @@ impl Header {
         }
     }
 
-    fn head_fault(&self) -> Option<ImageFault>
-        ensures { result ≡ head_fault self.now }
+    fn check_head(&self) -> Result<(), ImageFault>
+        ensures { result ≡ unless (head_fault self.now) tt }
     {
-        (!self.head_kept()).then_some(ImageFault::Head)
+        if !self.head_kept() {
+            return Err(ImageFault::Head);
+        }
+        Ok(())
     }
 
-    fn offset_fault(&self) -> Option<ImageFault>
-        ensures { result ≡ offset_fault self.now }
+    fn check_offset(&self) -> Result<(), ImageFault>
+        ensures { result ≡ unless (offset_fault self.now) tt }
     {
-        (self.offset as usize != HEADER).then_some(ImageFault::Offset)
+        if self.offset as usize != HEADER {
+            return Err(ImageFault::Offset);
+        }
+        Ok(())
     }
 
-    fn total_fault(&self, len: usize) -> Option<ImageFault>
-        ensures { result ≡ total_fault len self.now }
+    fn check_total(&self, len: usize) -> Result<(), ImageFault>
+        ensures { result ≡ unless (total_fault len self.now) tt }
     {
         let total = self.total as usize;
-        (total != HEADER + ROW * self.span as usize || total != len).then_some(ImageFault::Total)
+        if total != HEADER + ROW * self.span as usize || total != len {
+            return Err(ImageFault::Total);
+        }
+        Ok(())
     }
 
-    // The first that applies.
-    fn fault(&self, kind: Kind, len: usize) -> Option<ImageFault>
-        ensures { result ≡ header_fault (number_of_kind kind) len self.now }
+    // The first fault that applies.
+    fn check(&self, kind: Kind, len: usize) -> Result<(), ImageFault>
+        ensures { result ≡ unless (header_fault (number_of_kind kind) len self.now) tt }
     {
-        self.kind_fault(kind)
-            .or(self.span_fault())
-            .or(self.held_fault())
-            .or(self.head_fault())
-            .or(self.offset_fault())
-            .or(self.total_fault(len))
+        self.check_kind(kind)?;
+        self.check_span()?;
+        self.check_held()?;
+        self.check_head()?;
+        self.check_offset()?;
+        self.check_total(len)
     }
 }
 
@@ -149,9 +168,7 @@ pub(crate) fn open_header(bytes: &[u8], kind: Kind) -> Result<Header, ImageFault
 {
     check_length(bytes.len())?;
     let header = read_header(bytes);
-    if let Some(fault) = header.fault(kind, bytes.len()) {
-        return Err(fault);
-    }
+    header.check(kind, bytes.len())?;
     Ok(header)
 }
 

@@ -19,7 +19,7 @@ pub(crate) fn put_field<const N: usize>(bytes: &mut [u8], at: usize, field: [u8;
     ensures { bytes.new ≡ placed bytes.old at field.entry }
 {
     // There is room, so it is put.
-    let _ = put(bytes, at, &field);
+    put(bytes, at, &field).unwrap();
 }
 
 // Numbers of four bytes, one after the other, from a place on.

@@ -67,7 +67,7 @@ fn check<E: Coded + Copy>(bytes: &[u8]) -> Result<Header, ImageFault>
     Ok(header)
 }
 
-// Where the row of an index stands, the oldest being the first. A `Cursor` counts from the newest, and a header is none.
+// Where the row of an index stands, the oldest being the first. `Cursor::place` counts from the newest: by it, an image would need a cursor beside its header.
 fn place_of(head: u32, held: u32, index: u32) -> u32
     requires { (head ≤ held) × (index < held) }
     ensures { result ≡ place_of head held index }
@@ -88,11 +88,7 @@ impl<'a, E: Coded + Copy> Image<'a, E> {
         ensures fault { result_err result ≡ image_fault (number_of_kind E.Coded.KIND) E.Coded.fault bytes.now }
     {
         let header = check::<E>(bytes)?;
-        Ok(Image {
-            bytes,
-            header,
-            element: PhantomData,
-        })
+        Ok(Image::of_parts(bytes, header))
     }
 
     // An image of bytes that are known to have no fault.
@@ -156,7 +152,7 @@ impl<'a, E: Coded + Copy> Image<'a, E> {
     {
         let head = self.header.head;
         let held = self.header.held;
-        if index >= held || head > held {
+        if index >= held {
             return None;
         }
         row_at(self.bytes, place_of(head, held, index))

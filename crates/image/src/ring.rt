@@ -14,7 +14,7 @@ use crate::header::{HEADER, Header, write_header, write_turn};
 use crate::opened::Image;
 use crate::row::{ROW, row_at, write_row};
 use archive::archive::Archive;
-use archive::cursor::{Cursor, wrong_span};
+use archive::cursor::Cursor;
 use archive::entry::WHOLE;
 use archive::refusal::Refusal;
 use consolidation::item::Item;
@@ -104,11 +104,10 @@ impl<'a, E: Coded + Copy> ImageRing<'a, E> {
     pub fn open(&self) -> Option<Image<'_, E>>
         ensures { MatchOption result (self.now.cursor.span ≡ 0) (λ image. ImageOfRing E.Monoid.empty E.Coded.decoded self.now.cursor self.now.bytes.now image.bytes.now) }
     {
-        let cursor = self.cursor;
-        if wrong_span(cursor.span as usize) {
+        if self.cursor.span == 0 {
             return None;
         }
-        Some(Image::of_parts(self.bytes, header_of(E::KIND, cursor)))
+        Some(Image::of_parts(self.bytes, header_of(E::KIND, self.cursor)))
     }
 }
 

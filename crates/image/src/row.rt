@@ -24,7 +24,7 @@ pub(crate) fn row_start(place: u32) -> usize
     HEADER + ROW * place as usize
 }
 
-// The item in the row at a place, or what is wrong with its element.
+// The item in the row at a place, or what is wrong with its element. The place is one of the format, and its room is asked for: a type for both would be made anew at each call.
 pub(crate) fn read_row<E: Coded + Copy>(bytes: &[u8], place: u32) -> Result<Item<E>, ElementFault>
     requires { row_start place + 20 ≤ length bytes.now }
     ensures { result ≡ unless (fault_at E.Coded.fault bytes.now place) (item_at E.Coded.decoded bytes.now place) }
@@ -36,13 +36,11 @@ pub(crate) fn read_row<E: Coded + Copy>(bytes: &[u8], place: u32) -> Result<Item
     Ok(Item { element, known, of })
 }
 
-// That item; none where the bytes end before that row does, or its element has a fault.
+// That item; none where its element has a fault.
 pub(crate) fn row_at<E: Coded + Copy>(bytes: &[u8], place: u32) -> Option<Item<E>>
-    ensures { row_start place + 20 ≤ length bytes.now → result ≡ result_ok (unless (fault_at E.Coded.fault bytes.now place) (item_at E.Coded.decoded bytes.now place)) }
+    requires { row_start place + 20 ≤ length bytes.now }
+    ensures { result ≡ result_ok (unless (fault_at E.Coded.fault bytes.now place) (item_at E.Coded.decoded bytes.now place)) }
 {
-    if bytes.len() < row_start(place) + ROW {
-        return None;
-    }
     read_row(bytes, place).ok()
 }
 

@@ -6,7 +6,7 @@ use Rattle.archive.specs.Meanings.{Meaning, Sound, newest, stored, grown, closed
 use Rattle.layers.specs.Coarser.{Grouping, coarser, group_within}
 
 module _ {M : Type 0} {empty : M} {joined : M → M → M} (laws : Lawful empty joined) where
-  module _ (m : Meaning M) (sound : Sound empty m) (factor count : ℕ) (part : M) (grouping : Grouping empty m.width factor count part) (x : M) where
+  module _ (m : Meaning M) (sound : Sound m) (factor count : ℕ) (part : M) (grouping : Grouping empty m.width factor count part) (x : M) where
     -- the group goes down as one item
     pub coarser_closed : factor ≤ count + 1 → coarser joined (stored empty joined m (joined part x)) factor 0 empty ≡ stored empty joined (coarser joined m factor count part) x
     coarser_closed h =

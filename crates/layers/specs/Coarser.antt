@@ -1,7 +1,6 @@
 -- Groups of items that are kept as items by the archive below. Assumes nothing.
 use Rattle.std.specs.Prelude.{◌≡◌, ℕ, ◌+◌, ◌*◌, ◌<◌, ◌≤◌, Bool, cond, ◌||◌, nat_lt}
-use Rattle.std.proofs.Common.{ap, ◌∙◌, arith, mul-le-mul_left, mul-le-mul_right, mul-add, mul-one}
-use Rattle.consolidation.specs.Laws.{Lawful}
+use Rattle.std.proofs.Common.{arith, mul-le-mul_left, mul-add, mul-one}
 use Rattle.archive.specs.Meanings.{Meaning, Sound}
 
 -- a factor that is not 1 to 1,000, or that makes a width above 1,000,000
@@ -35,17 +34,8 @@ pub record Grouping {M : Type 0} (empty : M) (width factor count : ℕ) (part : 
 pub group_within : (factor b w : ℕ) → b < w → factor * b + factor ≤ factor * w
 group_within factor b w h = omega (arith, mul-add factor b 1, mul-one factor, mul-le-mul_left {m = b + 1} {n = w} factor (omega arith))
 
--- with nothing begun, nothing is joined
-pub coarser_none : {M : Type 0} {empty : M} {joined : M → M → M} → Lawful empty joined → (m : Meaning M) (factor count : ℕ) (part : M) → Sound empty m → Grouping empty m.width factor count part
-    → factor * m.begun + count ≡ 0 → joined m.part part ≡ empty
-coarser_none {empty = empty} {joined} laws m factor count part s g none =
-    let more : 1 * m.begun ≤ factor * m.begun = mul-le-mul_right m.begun g.some_factor in
-    ap (λ p. joined p part) (s.none_begun (omega arith))
-    ∙ ap (joined empty) (g.none_begun (omega arith))
-    ∙ laws.left_unit empty
-
-pub coarser_sound : {M : Type 0} (empty : M) (joined : M → M → M) → Lawful empty joined → (m : Meaning M) (factor count : ℕ) (part : M) → Sound empty m → Grouping empty m.width factor count part → Sound empty (coarser joined m factor count part)
-coarser_sound empty joined laws m factor count part s g =
+pub coarser_sound : {M : Type 0} (empty : M) (joined : M → M → M) (m : Meaning M) (factor count : ℕ) (part : M) → Sound m → Grouping empty m.width factor count part → Sound (coarser joined m factor count part)
+coarser_sound empty joined m factor count part s g =
     let room = group_within factor m.begun m.width s.still_open in
     record {
       some_width = omega arith;
@@ -53,6 +43,5 @@ coarser_sound empty joined laws m factor count part s g =
       most_span = s.most_span;
       most_allowance = s.most_allowance;
       still_open = omega arith;
-      none_begun = coarser_none laws m factor count part s g;
       within_span = s.within_span;
     }

@@ -19,13 +19,12 @@ limited allowance m = record {
   rows = m.rows;
 }
 
-pub limited_sound : {M : Type 0} (empty : M) (allowance : ℕ) (m : Meaning M) → Sound empty m → Sound empty (limited allowance m)
-limited_sound empty allowance m s = record {
+pub limited_sound : {M : Type 0} (allowance : ℕ) (m : Meaning M) → Sound m → Sound (limited allowance m)
+limited_sound allowance m s = record {
   some_width = s.some_width;
   most_width = s.most_width;
   most_span = s.most_span;
   most_allowance = le_trans (min-le_right allowance m.allowance) s.most_allowance;
   still_open = s.still_open;
-  none_begun = s.none_begun;
   within_span = s.within_span;
 }

@@ -9,7 +9,7 @@ use archive::entry::{WHOLE, show};
 use archive::refusal::Refusal;
 
 // As the archive below, but a row of which more than `allowance` is unknown is shown as wholly unknown.
-#[derive(Drop)]
+#[derive(PartialEq, Eq, Debug, Drop)]
 pub struct AllowanceLayer<A> {
     below: A,
     allowance: u32,
@@ -38,7 +38,7 @@ impl<A: Archive> AllowanceLayer<A> {
         }
     }
 
-    // The archive below, as it stands.
+    // The archive below, as it stands. Here and in the other layer alike, as `span` is.
     pub fn below(&self) -> &A
         ensures { result.now ≡ self.now.below }
     {
@@ -51,7 +51,7 @@ impl<A: Archive> Archive for AllowanceLayer<A> {
 
     ghost meaning = { λ s. limited s.allowance (A.Archive.meaning s.below) };
 
-    ghost sound = { λ s. limited_sound A.Item.Monoid.empty s.allowance (A.Archive.meaning s.below) (A.Archive.sound s.below) };
+    ghost sound = { λ s. limited_sound s.allowance (A.Archive.meaning s.below) (A.Archive.sound s.below) };
 
     fn store(&mut self, item: A::Item) {
         self.below.store(item);
@@ -83,6 +83,7 @@ impl<A: Archive> Archive for AllowanceLayer<A> {
         self.below.part()
     }
 
+    // As `span`.
     fn held(&self) -> u32 {
         self.below.held()
     }

@@ -16,7 +16,7 @@ pub const MOST_FACTOR: u32 = 1_000;
 pub const MOST_WIDTH: u64 = 1_000_000;
 
 // Joins `factor` items into one, which the archive below stores.
-#[derive(Drop)]
+#[derive(PartialEq, Eq, Debug, Drop)]
 pub struct Coarsen<A: Archive> {
     below: A,
     factor: u32,
@@ -65,7 +65,7 @@ impl<A: Archive> Coarsen<A> {
         }
     }
 
-    // The archive below, as it stands.
+    // The archive below, as it stands. Here and in the other layer alike, as `span` is.
     pub fn below(&self) -> &A
         ensures { result.now ≡ self.now.below }
     {
@@ -78,7 +78,7 @@ impl<A: Archive> Archive for Coarsen<A> {
 
     ghost meaning = { λ s. coarser A.Item.Monoid.joined (A.Archive.meaning s.below) s.factor s.count s.part };
 
-    ghost sound = { λ s. coarser_sound A.Item.Monoid.empty A.Item.Monoid.joined A.Item.Monoid.lawful (A.Archive.meaning s.below) s.factor s.count s.part (A.Archive.sound s.below) s.grouping };
+    ghost sound = { λ s. coarser_sound A.Item.Monoid.empty A.Item.Monoid.joined (A.Archive.meaning s.below) s.factor s.count s.part (A.Archive.sound s.below) s.grouping };
 
     fn store(&mut self, item: A::Item) {
         let joined = self.part.join(item);
@@ -119,6 +119,7 @@ impl<A: Archive> Archive for Coarsen<A> {
         self.below.part().join(self.part)
     }
 
+    // As `span`.
     fn held(&self) -> u32 {
         self.below.held()
     }

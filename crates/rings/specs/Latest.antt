@@ -16,9 +16,9 @@ listed (Some x) = x ∷ []
 abbrev pub of_latest : {E : Type 0} → E → LatestRow E → Meaning (Item E)
 of_latest empty s = ending (empty_item empty) 1 (listed s.row)
 
-latest_rows : {E : Type 0} (empty : E) (row : Option (Item E)) → Sound (empty_item empty) (ending (empty_item empty) 1 (listed row))
+latest_rows : {E : Type 0} (empty : E) (row : Option (Item E)) → Sound (ending (empty_item empty) 1 (listed row))
 latest_rows empty None = ending_sound (empty_item empty) 1 [] (omega arith) (omega arith)
 latest_rows empty (Some x) = ending_sound (empty_item empty) 1 (x ∷ []) (omega arith) (omega arith)
 
-pub latest_sound : {E : Type 0} (empty : E) (s : LatestRow E) → Sound (empty_item empty) (of_latest empty s)
+pub latest_sound : {E : Type 0} (empty : E) (s : LatestRow E) → Sound (of_latest empty s)
 latest_sound empty s = latest_rows empty s.row

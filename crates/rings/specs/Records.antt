@@ -19,7 +19,7 @@ module _ {E : Type 0} where
       let within = turning.within in
       omega (arith, span_is, span_within (length rows))
 
-  pub ring_sound : (empty : E) (c : Cursor) (rows : List (Item E)) → Turning c → c.span ≡ ring_span (length rows) → Sound (empty_item empty) (ring_meaning empty c rows)
+  pub ring_sound : (empty : E) (c : Cursor) (rows : List (Item E)) → Turning c → c.span ≡ ring_span (length rows) → Sound (ring_meaning empty c rows)
   ring_sound empty c rows turning span_is =
       let within = turning.within in
       ending_sound (empty_item empty) c.span (ring_rows c rows) turning.few (omega (arith, ring_length c rows (held_within c rows turning span_is)))

@@ -12,7 +12,7 @@ use consolidation::item::Item;
 use consolidation::monoid::Monoid;
 
 // An archive of span 1 that needs no buffer.
-#[derive(Drop)]
+#[derive(PartialEq, Eq, Debug, Drop)]
 pub struct LatestRow<E> {
     row: Option<Item<E>>,
 }

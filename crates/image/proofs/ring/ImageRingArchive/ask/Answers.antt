@@ -3,6 +3,12 @@ use Rattle.element.specs.Kinds.{number_of_kind}
 use Rattle.image.proofs.Asked.{asked_none, asked_room, asked_row}
 use Rattle.image.proofs.ring.ImageRingArchive.ask.Goals as goal
 
+pub row_at-requires : goal.row_at-requires
+row_at-requires g c =
+    let ring = c.args.self.now in
+    let there = sym (c.place.ensures ring.kept.turning) ∙ c.in_ok-place.was in
+    asked_room (number_of_kind g.E.Coded.KIND) g.E.Coded.fault ring.cursor ring.bytes.now ring.kept g.E.Monoid.empty g.E.Coded.decoded c.args.age _ there
+
 pub returns : goal.returns
 returns g c =
     let ring = c.args.self.now in
@@ -10,7 +16,7 @@ returns g c =
     let fault = g.E.Coded.fault in
     let s = ring.bytes.now in
     let there = sym (c.place.ensures ring.kept.turning) ∙ c.in_ok-place.was in
-    c.row_at.ensures (asked_room kind fault ring.cursor s ring.kept g.E.Monoid.empty g.E.Coded.decoded c.args.age _ there)
+    c.row_at.ensures
     ∙ asked_row kind fault ring.cursor s ring.kept g.E.Monoid.empty g.E.Coded.decoded c.args.age _ there
 
 pub returns-in_err-place : goal.returns-in_err-place
