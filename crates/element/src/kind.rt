@@ -12,7 +12,7 @@ pub enum Kind {
 }
 
 impl Kind {
-    // The number that an image has for it.
+    // The number that an image has for it; by its name, since `u32::from(kind)` would not say so.
     pub fn number(self) -> u32
         ensures { result ≡ number_of_kind self }
     {

@@ -38,8 +38,8 @@ module _ (h : Header) where
     length-rows = sym (length-map (places h) row ∙ length-places)
 
     -- the row of an index
-    pub nth-rows : (i : ℕ) → h.head ≤ h.held → i < h.held → Some (row (place_of h.head h.held i)) ≡ slice_get (map row (places h)) i
-    nth-rows i within held =
+    pub row_of_index : (i : ℕ) → h.head ≤ h.held → i < h.held → Some (row (place_of h.head h.held i)) ≡ slice_get (map row (places h)) i
+    row_of_index i within held =
         let inside : i < length (places h) = omega (arith, length-places) in
         ap (λ p. Some (row p)) (sym (get_or-places i within held))
         ∙ ap Some (sym (get_or-map row (places h) i 0 (row 0) inside))

@@ -13,7 +13,7 @@ use Rattle.image.specs.Images.{bad_element, image_fault, place_of, places, rows_
 use Rattle.image.specs.Rows.{row_start, fault_at, item_at}
 use Rattle.image.proofs.Faults.{mapped_none, or_none, earliest_none}
 use Rattle.image.proofs.Headers.{front_sound}
-use Rattle.image.proofs.Places.{get_or-places, nth-rows}
+use Rattle.image.proofs.Places.{get_or-places, row_of_index}
 
 -- the head is no further than the rows held
 pub head_within : (kind len : ℕ) (h : Header) → Sound kind len h → h.head ≤ h.held
@@ -51,7 +51,7 @@ module _ (kind : ℕ) (fault : ℤ → ℕ → Option ElementFault) (s : List �
       let here : place < h.held = subst (λ p. p < h.held) (sym is) (place_held h.head h.held index within held) in
       ap (λ o. result_ok (unless o (item_at decoded s place))) (row_sound place here)
       ∙ ap (λ p. Some (item_at decoded s p)) is
-      ∙ nth-rows h (item_at decoded s) index within held
+      ∙ row_of_index h (item_at decoded s) index within held
 
   -- nor has the row of an index
   pub place_sound : (index : ℕ) → index < (header_in s).held → fault_at fault s (get_or (places (header_in s)) index 0) ≡ None

@@ -5,12 +5,13 @@ ghost use Rattle.element.specs.Faults.{unless};
 ghost use Rattle.image.specs.Headers.{header_in, length_fault, kind_fault, span_fault, held_fault, head_kept, head_fault, offset_fault, total_fault, header_fault, front_fault, kind_read};
 ghost use Rattle.element.specs.Kinds.{number_of_kind};
 ghost use Rattle.image.specs.Numbers.{bytes32};
-ghost use Rattle.image.specs.Rings.{header_bytes};
+ghost use Rattle.image.specs.Rings.{header_bytes, turn_bytes};
 
 use crate::fault::ImageFault;
 use crate::number::{field, numbers, put_numbers};
 use crate::row::ROW;
 // The most rows that an image can have room for.
+use archive::cursor::Cursor;
 pub use archive::cursor::MOST_ROWS;
 use element::kind::Kind;
 
@@ -65,12 +66,12 @@ pub(crate) fn write_header(bytes: &mut [u8], header: Header)
     put_numbers(bytes, 0, [kind, span, held, head, offset, total]);
 }
 
-// The two numbers that change as rows are written.
-pub(crate) fn write_turn(bytes: &mut [u8], held: u32, head: u32)
+// The two numbers of a cursor that change as rows are written.
+pub(crate) fn write_turn(bytes: &mut [u8], cursor: Cursor)
     requires { 24 ≤ length bytes.old }
-    ensures { bytes.new ≡ placed bytes.old 8 (bytes32 held ++ bytes32 head) }
+    ensures { bytes.new ≡ placed bytes.old 8 (turn_bytes cursor) }
 {
-    put_numbers(bytes, 8, [held, head]);
+    put_numbers(bytes, 8, [cursor.held, cursor.head]);
 }
 
 fn check_length(len: usize) -> Result<(), ImageFault>

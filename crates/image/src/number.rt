@@ -1,4 +1,4 @@
-// Numbers as bytes, the lowest byte first, each at its place in the format.
+// Numbers as bytes, the lowest byte first, each at its place in the format, which is another at each call and goes nowhere.
 ghost use Rattle.std.specs.Prelude.{◌≡◌, ◌+◌, ◌*◌, ◌≤◌, length, map, take, drop};
 ghost use Rattle.std.specs.List.{flat_map, range_with_len};
 ghost use Rattle.lent_bytes.specs.Placed.{placed};
@@ -27,6 +27,7 @@ pub(crate) fn numbers<const N: usize>(bytes: &[u8], at: usize) -> [u32; N]
     requires { at + 4 * N ≤ length bytes.now }
     ensures { result ≡ map (λ k. le32 bytes.now (at + 4 * k)) (range_with_len 0 N) }
 {
+    // `array::from_fn` promises nothing of its closure's calls that would tell the numbers.
     let mut numbers = [0; N];
     for (k, number) in numbers.iter_mut().enumerate() {
         *number = u32::from_le_bytes(field(bytes, at + 4 * k));

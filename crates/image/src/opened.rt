@@ -43,7 +43,7 @@ impl<'i, 'a, E: Coded> Model for Rows<'i, 'a, E> {
     ghost view = { λ rows. drop rows.index (rows_in E.Coded.decoded rows.image.now.bytes.now) };
 }
 
-// The element's fault in the row at a place, with that place and the row's first byte.
+// The element's fault in the row at a place, with that place and the row's first byte. The room is asked for, as by `read_row`.
 fn check_row<E: Coded + Copy>(bytes: &[u8], place: u32) -> Result<(), BadElement>
     requires { (row_start place + 20 ≤ length bytes.now) × (place < 3000) }
     ensures { result_err result ≡ bad_element E.Coded.fault bytes.now place }

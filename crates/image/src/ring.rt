@@ -131,7 +131,7 @@ impl<'a, E: Coded + Copy> Archive for ImageRing<'a, E> {
         }
         write_row(self.bytes, cursor.head, item).unwrap();
         let next = cursor.next();
-        write_turn(self.bytes, next.held, next.head);
+        write_turn(self.bytes, next);
         self.cursor = next;
     }
 

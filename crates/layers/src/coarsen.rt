@@ -65,7 +65,7 @@ impl<A: Archive> Coarsen<A> {
         }
     }
 
-    // The archive below, as it stands. Here and in the other layer alike, as `span` is.
+    // The archive below, as it stands. Each layer has one line for its own field, and no trait could say it in less.
     pub fn below(&self) -> &A
         ensures { result.now ≡ self.now.below }
     {
@@ -100,7 +100,7 @@ impl<A: Archive> Archive for Coarsen<A> {
         self.factor.wrapping_mul(self.below.width())
     }
 
-    // Told as below, here and in the other layer: with one impl for both, code that is generic over archives gets no proof.
+    // Told as below, here and in the other layer: one impl for both would be a second that could match, as one for all ends was.
     fn span(&self) -> u32 {
         self.below.span()
     }

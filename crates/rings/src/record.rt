@@ -26,7 +26,7 @@ pub struct RecordRing<'a, E> {
     ghost span_is: { cursor.span ≡ ring_span (length rows.now) },
 }
 
-// Writes one place, if there is such a place.
+// Writes one place, if there is such a place: nothing is asked of it, so that its promise holds of every slice.
 fn put<E: Copy>(rows: &mut [Item<E>], place: u32, item: Item<E>)
     ensures { rows.new ≡ slice_set rows.old place item }
 {
