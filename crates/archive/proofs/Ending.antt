@@ -1,15 +1,12 @@
 -- Archives that keep each item as a row of its own. Assumes nothing.
-use Rattle.std.proofs.Common.{◌≡◌, ℕ, ◌-◌, ◌<◌, ◌≤◌, List, [], ◌∷◌, ◌++◌, length, get_or, Some, None, ap, ◌∙◌, arith}
+use Rattle.std.proofs.Common.{◌≡◌, ℕ, ◌-◌, ◌<◌, List, [], ◌∷◌, ◌++◌, length, get_or, Some, None, ap, ◌∙◌}
 use Rattle.std.proofs.lemmas.Bool.{lt-ltb, cond-true}
 use Rattle.consolidation.specs.Laws.{Lawful}
 use Rattle.archive.specs.Entries.{Counted}
-use Rattle.archive.specs.Meanings.{Sound, newest, stored, asked, ending}
+use Rattle.archive.specs.Meanings.{newest, stored, asked, ending}
 use Rattle.archive.proofs.Showing.{shown_whole}
 
-pub ending_sound : {M : Type 0} (empty : M) (span : ℕ) (rows : List M) → span ≤ 3000 → length rows ≤ span → Sound (ending empty span rows)
-ending_sound empty span rows few held = record { some_width = omega arith; most_width = omega arith; most_span = few; most_allowance = omega arith; still_open = omega arith; within_span = held }
-
--- it shows each row as it is held
+-- they show each row as it is held
 pub asked-ending : {M : Type 0} (empty : M) (counts : Counted M) (span : ℕ) (rows : List M) (age : ℕ) → age < length rows
     → asked empty counts (ending empty span rows) age ≡ Some (get_or rows (length rows - 1 - age) empty)
 asked-ending empty counts span rows age young =

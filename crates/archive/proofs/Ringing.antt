@@ -6,6 +6,7 @@ use Rattle.std.proofs.lemmas.Bool.Decides.{nat_tests}
 use Rattle.archive.specs.declared.cursor.Cursor.{Cursor}
 use Rattle.archive.specs.Meanings.{newest}
 use Rattle.archive.specs.Rings.{ring_span, Turning, next_place, turned_on, from_place, ring_rows, age_place}
+use Rattle.archive.specs.RingsLemmas.{ring_length}
 use Rattle.archive.proofs.Newest.{newest_all}
 
 some_same : {X : Type 0} (a b : X) → Some a ≡ Some b → a ≡ b
@@ -13,9 +14,6 @@ some_same a b e = cc
 
 none_some : {X : Type 0} (b : X) → ◌≡◌ {A = Option X} None (Some b) → ⊥
 none_some b e = let z : ◌≡◌ {A = ℕ} 0 1 = cc in omega arith
-
-pub span_within : (places : ℕ) → ring_span places ≤ places
-span_within places = grind (arith, nat_tests)
 
 -- a ring that has places has all that there are
 pub span_whole : (places : ℕ) → 0 < ring_span places → places ≡ ring_span places
@@ -78,9 +76,6 @@ place_held c age place t is =
     ]
 
 module _ {X : Type 0} where
-  pub ring_length : (c : Cursor) (xs : List X) → c.held ≤ length xs → length (ring_rows c xs) ≡ c.held
-  ring_length c xs h = simp (length-append, length-drop, length-take) (omega arith)
-
   from_end : (n : ℕ) (xs : List X) → length xs ≤ n → from_place n xs ≡ xs
   from_end n xs h = ap (λ l. l ++ take n xs) (drop_all n xs h) ∙ take_all n xs h
 

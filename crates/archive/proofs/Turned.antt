@@ -7,14 +7,15 @@ use Rattle.consolidation.specs.Laws.{Lawful}
 use Rattle.archive.specs.declared.cursor.Cursor.{Cursor}
 use Rattle.archive.specs.Entries.{Counted}
 use Rattle.archive.specs.Meanings.{stored, asked, ending}
-use Rattle.archive.specs.Rings.{Turning, turned_on, ring_rows, age_place}
+use Rattle.archive.specs.Rings.{Turning, turned_on, ring_rows, ring_meaning, age_place}
+use Rattle.archive.specs.RingsLemmas.{ring_length}
 use Rattle.archive.proofs.Ending.{stored-ending, asked-ending}
-use Rattle.archive.proofs.Ringing.{place_held, ring_length, ring_stored, ring_aged}
+use Rattle.archive.proofs.Ringing.{place_held, ring_stored, ring_aged}
 
 module _ {M : Type 0} (c : Cursor) (xs : List M) (t : Turning c) where
   -- the row of an age is asked for at its place
   pub ring_asked : (empty : M) (counts : Counted M) (age : ℕ) → c.held ≤ length xs
-      → option_map (λ place. get_or xs place empty) (age_place c age) ≡ asked empty counts (ending empty c.span (ring_rows c xs)) age
+      → option_map (λ place. get_or xs place empty) (age_place c age) ≡ asked empty counts (ring_meaning empty c xs) age
   ring_asked empty counts age room =
       let rows = ring_rows c xs in
       let held : length rows ≡ c.held = ring_length c xs room in
@@ -32,7 +33,7 @@ module _ {M : Type 0} (c : Cursor) (xs : List M) (t : Turning c) where
 
   -- it is read there
   pub ring_found : (empty : M) (counts : Counted M) (age place : ℕ) (d : M) → c.held ≤ length xs → age_place c age ≡ Some place
-      → Some (get_or xs place d) ≡ asked empty counts (ending empty c.span (ring_rows c xs)) age
+      → Some (get_or xs place d) ≡ asked empty counts (ring_meaning empty c xs) age
   ring_found empty counts age place d room at =
       let held = place_held c age place t at in
       let found = λ (d : M). slice_get-get_or xs place d (omega arith) in
@@ -41,10 +42,10 @@ module _ {M : Type 0} (c : Cursor) (xs : List M) (t : Turning c) where
       ∙ ring_asked empty counts age room
 
   -- and an age that has no place has no row
-  pub ring_missing : (empty : M) (counts : Counted M) (age : ℕ) → c.held ≤ length xs → age_place c age ≡ None → None ≡ asked empty counts (ending empty c.span (ring_rows c xs)) age
+  pub ring_missing : (empty : M) (counts : Counted M) (age : ℕ) → c.held ≤ length xs → age_place c age ≡ None → None ≡ asked empty counts (ring_meaning empty c xs) age
   ring_missing empty counts age room at = ap (option_map (λ k. get_or xs k empty)) (sym at) ∙ ring_asked empty counts age room
 
   module _ {empty : M} {joined : M → M → M} (laws : Lawful empty joined) (x : M) where
     -- one place is written
-    pub ring_recorded : 0 < c.span → length xs ≡ c.span → ending empty c.span (ring_rows (turned_on c) (set xs c.head x)) ≡ stored empty joined (ending empty c.span (ring_rows c xs)) x
+    pub ring_recorded : 0 < c.span → length xs ≡ c.span → ring_meaning empty (turned_on c) (set xs c.head x) ≡ stored empty joined (ring_meaning empty c xs) x
     ring_recorded some size = ap (ending empty c.span) (ring_stored c xs x t some size) ∙ sym (stored-ending laws c.span (ring_rows c xs) x)

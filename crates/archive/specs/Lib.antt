@@ -4,3 +4,4 @@ pub mod Groups
 pub mod Meanings
 pub mod Refusals
 pub mod Rings
+pub mod RingsLemmas

@@ -1,5 +1,6 @@
 -- A ring of places: which is written next, and which hold the newest rows. Assumes nothing.
 use Rattle.std.specs.Prelude.{◌≡◌, ℕ, ◌+◌, ◌-◌, ◌<◌, ◌≤◌, Bool, cond, ◌||◌, List, ◌++◌, take, drop, Some, None, Option, nat_lt}
+use Rattle.archive.specs.Meanings.{Meaning, ending}
 use Rattle.archive.specs.declared.cursor.Cursor.{Cursor}
 
 -- a ring has 1 to 3,000 places
@@ -35,6 +36,10 @@ from_place head xs = drop head xs ++ take head xs
 -- the rows that the places hold, the oldest first: until the ring is full the head is past them all
 abbrev pub ring_rows : {X : Type 0} → Cursor → List X → List X
 ring_rows c places = from_place c.head (take c.held places)
+
+-- what a ring means: each item is a row of its own
+abbrev pub ring_meaning : {M : Type 0} → M → Cursor → List M → Meaning M
+ring_meaning empty c places = ending empty c.span (ring_rows c places)
 
 -- where the row of an age stands, 0 for the newest
 abbrev pub age_place : Cursor → ℕ → Option ℕ

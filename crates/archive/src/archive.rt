@@ -44,6 +44,6 @@ pub trait Archive {
     fn held(&self) -> u32
         ensures { result ≡ length (meaning self.now).rows };
 
-    // The ranges hold of every archive, and with nothing begun the open row is empty.
+    // The ranges hold of every archive.
     ghost sound: { (s : Self) → Sound (meaning s) };
 }

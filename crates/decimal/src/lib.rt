@@ -1,4 +1,5 @@
 // Writes a number in decimal into bytes that are lent, or at the end of a text.
+// The kit's `itoa` spells numbers too; here they are spelled by code of this crate, since must-fail edits turn its digits and its sign.
 #![tactic(auto)]
 
 ghost use Rattle.std.specs.Prelude.{◌≡◌, ◌+◌, ◌≤◌, length, drop, decimal};
@@ -42,6 +43,7 @@ fn spell_digits(scratch: &mut [u8; LONGEST], value: u64) -> usize
     ensures start { result + length (decimal value) ≡ 20 }
 {
     let mut rest = value;
+    // By index: of `iter_mut` the loop's invariant does not see the scratch.
     for start in (0..LONGEST).rev() {
         scratch[start] = b'0' + (rest % 10) as u8;
         rest /= 10;
@@ -67,7 +69,7 @@ fn spell(scratch: &mut [u8; LONGEST], value: i64) -> usize
     start
 }
 
-// Writes `value` in decimal at the place `at` of `out`, and answers the place after it; where it does not fit, nothing is changed.
+// Writes `value` in decimal at the place `at` of `out`, and answers the place after it; where it does not fit, nothing is changed, and there is no such place.
 // Any place may be asked for, as of `put`.
 pub fn write(out: &mut [u8], at: usize, value: i64) -> Option<usize>
     ensures { Writes out.old at (signed_decimal value) result out.new }

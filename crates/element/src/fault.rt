@@ -12,7 +12,7 @@ pub enum ElementFault {
 }
 
 impl ElementFault {
-    // By its name, since `u32::from(fault)` would not say what the number is.
+    // A method, here and in the other enums with numbers: `as` takes no type parameter, and `u32::from(fault)` would not say what the number is.
     pub fn number(self) -> u32
         ensures { result ≡ number_of_element_fault self }
     {

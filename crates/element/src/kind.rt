@@ -12,7 +12,7 @@ pub enum Kind {
 }
 
 impl Kind {
-    // The number that an image has for it; by its name, since `u32::from(kind)` would not say so.
+    // The number that an image has for it. A method, here and in the other enums with numbers: `as` takes no type parameter, and `u32::from(kind)` would not say what the number is.
     pub fn number(self) -> u32
         ensures { result ≡ number_of_kind self }
     {

@@ -1,5 +1,5 @@
 -- The row of an age, in the bytes of a ring and in an image. Assumes nothing.
-use Rattle.std.proofs.Common.{◌≡◌, ℕ, ◌+◌, ◌-◌, ◌<◌, ◌≤◌, List, length, get_or, ℤ, Some, None, Option, sym, ap, ◌∙◌, arith}
+use Rattle.std.proofs.Common.{◌≡◌, ℕ, ◌-◌, ◌<◌, ◌≤◌, List, length, get_or, ℤ, Some, None, Option, sym, ap, ◌∙◌, arith}
 use Rattle.std.specs.List.{slice_get}
 use Rattle.std.proofs.lemmas.Option.{slice_get-get_or}
 use Rattle.std.specs.Result.{result_ok}
@@ -15,8 +15,7 @@ use Rattle.consolidation.specs.declared.item.Item.{Item}
 use Rattle.element.specs.declared.fault.ElementFault.{ElementFault}
 use Rattle.element.specs.Faults.{unless}
 use Rattle.image.specs.Rings.{slots, meaning_of, Kept}
-use Rattle.image.specs.Rows.{row_start, fault_at, item_at}
-use Rattle.image.proofs.Shown.{kept_long}
+use Rattle.image.specs.Rows.{fault_at, item_at}
 
 -- in a list of rows
 pub asked_index : {M : Type 0} (empty : M) (counts : Counted M) (span : ℕ) (rows : List M) (held age : ℕ) → held ≡ length rows → age < held → slice_get rows (held - 1 - age) ≡ asked empty counts (ending empty span rows) age
@@ -45,13 +44,6 @@ module _ (kind : ℕ) (fault : ℤ → ℕ → Option ElementFault) (c : Cursor)
   module _ (place : ℕ) (there : age_place c age ≡ Some place) where
     held : place < c.held
     held = place_held c age place w.turning there
-
-    pub asked_room : row_start place + 20 ≤ length s
-    asked_room =
-        let below = held in
-        let within = w.turning.within in
-        let size = kept_long kind fault c s w (omega arith) in
-        omega arith
 
     pub asked_row : result_ok (unless (fault_at fault s place) (item_at decoded s place)) ≡ asked (empty_item empty) (item_counts empty) (meaning_of empty decoded c s) age
     asked_row =

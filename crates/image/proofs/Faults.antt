@@ -1,5 +1,5 @@
 -- Which of several faults answers. Assumes nothing.
-use Rattle.std.proofs.Common.{◌≡◌, ℕ, zero, suc, ◌+◌, ◌-◌, ◌<◌, Bool, true, false, Some, None, Ok, Err, Option, sym, refl, ap, ◌∙◌, ⊎_elim, add-one, arith}
+use Rattle.std.proofs.Common.{◌≡◌, ℕ, zero, suc, ◌+◌, ◌-◌, ◌<◌, Bool, true, false, Some, None, Ok, Err, Option, sym, refl, ap, ◌∙◌, ⊎_elim, arith}
 use Rattle.std.specs.Bool.{then_some}
 use Rattle.std.specs.Option.{option_map}
 use Rattle.std.proofs.lemmas.Bool.{cases_eq}
@@ -45,10 +45,6 @@ module _ {F : Type 0} where
     unless_some o x f e = sym (ap (λ p. unless p x) e)
 
   module _ (fault : ℕ → Option F) where
-    -- one place more, without a fault
-    pub earliest_more : (n : ℕ) → earliest fault n ≡ None → fault n ≡ None → earliest fault (n + 1) ≡ None
-    earliest_more n before here = rw add-one (or_second (earliest fault n) (fault n) before ∙ here)
-
     -- the first fault stays the first, however many places follow
     stays : (m k : ℕ) (f : F) → earliest fault m ≡ Some f → earliest fault (k + m) ≡ Some f
     stays m zero f e = let z : zero + m ≡ m = omega arith in ap (earliest fault) z ∙ e

@@ -1,6 +1,7 @@
 pub mod Asked
 pub mod Elsewhere
 pub mod Faults
+pub mod FromFn
 pub mod Headed
 pub mod Headers
 pub mod Images

@@ -2,7 +2,6 @@
 use Rattle.std.proofs.Common.{◌≡◌, ℕ, ◌+◌, ◌<◌, ◌≤◌, Ok, Err, Result, List, length, get_or, set, ℤ, None, Option, sym, refl, ap, ◌∙◌, subst, inl, inr, arith}
 use Rattle.std.proofs.lemmas.List.FromFn.{fill_by_all, length-map-range_with_len, get_or-map-range_with_len}
 use Rattle.std.proofs.lemmas.List.{length-set, get_or-set_same, get_or-set_other}
-use Rattle.std.specs.Result.{IsOk}
 use Rattle.std.proofs.lemmas.Bool.{cases_lt, cases_eq}
 use Rattle.std.proofs.lemmas.Bool.Decides.{nat_tests}
 use Rattle.archive.specs.Entries.{empty_item}
@@ -19,7 +18,7 @@ use Rattle.element.specs.declared.fault.ElementFault.{ElementFault}
 use Rattle.image.specs.declared.row.NoRow.{NoRow}
 use Rattle.image.specs.Headers.{header_in}
 use Rattle.image.specs.Rings.{image_span, header_of, turn_bytes, item_bytes, recorded, slots, meaning_of, Kept}
-use Rattle.image.specs.Rows.{row_start, fault_at, item_at, RowWritten, Unwritten, WritesRow}
+use Rattle.image.specs.Rows.{row_start, fault_at, item_at, RowWritten, WritesRow}
 use Rattle.image.proofs.Elsewhere.{Alike, alike_before, alike_after, header_alike, fault_alike, item_alike}
 use Rattle.image.proofs.Headed.{turn_back}
 use Rattle.image.proofs.Shown.{kept_long}
@@ -134,40 +133,38 @@ module _ (kind : ℕ) (fault : ℤ → ℕ → Option ElementFault) (c : Cursor)
         ap (λ xs. ending (empty_item empty) c.span (ring_rows (turned_on c) xs)) slots_after
         ∙ ring_recorded c before w.turning laws x some (length-map-range_with_len (item_at decoded s) 0 c.span)
 
--- the same of what `store` leaves: a row that was written, the next cursor, and its two numbers
-module _ {E : Type 0} (amount : E → ℤ) (weight : E → ℕ) (fault : ℤ → ℕ → Option ElementFault) (decoded : ℤ → ℕ → E) (c : Cursor) (s : List ℕ) (x : Item E) where
-  module _ (t u : List ℕ) (d : Cursor) (row : RowWritten amount weight fault decoded s c.head x t) (next : d ≡ turned_on c) (turn : u ≡ placed t 8 (turn_bytes d)) where
-    pub record_bytes : u ≡ recorded c (item_bytes amount weight x) s
-    record_bytes = turn ∙ (λ i. placed (row.bytes i) 8 (turn_bytes (next i)))
-
-    module _ (kind : ℕ) (some : 0 < c.span) (w : Kept kind fault c s) where
-      pub record_kept : Kept kind fault d u
-      record_kept =
-          let sound = sym (ap (λ l. fault_at fault l c.head) row.bytes) ∙ row.sound in
-          subst (λ e. Kept kind fault e u) (sym next) (subst (Kept kind fault (turned_on c)) (sym record_bytes) (kept_after kind fault c s (item_bytes amount weight x) refl w some sound))
-
-      pub record_value : (empty : E) (joined : Item E → Item E → Item E) → Lawful (empty_item empty) joined → meaning_of empty decoded d u ≡ stored (empty_item empty) joined (meaning_of empty decoded c s) x
-      record_value empty joined laws =
-          let back = sym (ap (λ l. item_at decoded l c.head) row.bytes) ∙ row.back in
-          (λ i. meaning_of empty decoded (next i) (record_bytes i)) ∙ value_after kind fault c s (item_bytes amount weight x) refl w some decoded x back empty joined laws
-
-  -- there is always room for it
-  pub record_room : (t : List ℕ) (kind : ℕ) → 0 < c.span → Unwritten amount weight fault decoded s c.head t → Kept kind fault c s → ⊥
-  record_room t kind some short w =
+-- the same of what `store` leaves: the row, which is always written, then the next cursor and its two numbers
+module _ {E : Type 0} (amount : E → ℤ) (weight : E → ℕ) (fault : ℤ → ℕ → Option ElementFault) (decoded : ℤ → ℕ → E) (kind : ℕ) (c : Cursor) (s : List ℕ) (x : Item E) (t : List ℕ) (some : 0 < c.span) (w : Kept kind fault c s) where
+  written_row : (r : Result (Unit {0}) NoRow) → WritesRow amount weight fault decoded s c.head x r t → RowWritten amount weight fault decoded s c.head x t
+  written_row (Ok _) row = row
+  written_row (Err _) none =
       let size = kept_long kind fault c s w some in
       let inside = head_inside c w.turning some in
-      let past = short.short in
-      omega arith
+      let past = none.short in
+      absurd (omega arith)
 
--- the same, once it is known whether a row was written, and while the cursor is as it was
-module _ {E : Type 0} (amount : E → ℤ) (weight : E → ℕ) (fault : ℤ → ℕ → Option ElementFault) (decoded : ℤ → ℕ → E) (kind : ℕ) (c : Cursor) (s : List ℕ) (x : Item E) (t : List ℕ) (some : 0 < c.span) (w : Kept kind fault c s) where
-  pub row_kept : (r : Result (Unit {0}) NoRow) → WritesRow amount weight fault decoded s c.head x r t → Kept kind fault c t
-  row_kept (Ok _) row =
-      let sound = sym (ap (λ l. fault_at fault l c.head) row.bytes) ∙ row.sound in
-      subst (Kept kind fault c) (sym row.bytes) (kept_written kind fault c s (item_bytes amount weight x) refl w some sound)
-  row_kept (Err _) none = subst (Kept kind fault c) (sym none.same) w
+  module _ (r : Result (Unit {0}) NoRow) (wrote : WritesRow amount weight fault decoded s c.head x r t) where
+    abbrev row : RowWritten amount weight fault decoded s c.head x t
+    row = written_row r wrote
 
-  -- it is always written
-  pub always_written : (r : Result (Unit {0}) NoRow) → WritesRow amount weight fault decoded s c.head x r t → IsOk r × RowWritten amount weight fault decoded s c.head x t
-  always_written (Ok _) row = (refl, row)
-  always_written (Err _) none = absurd (record_room amount weight fault decoded c s x t kind some none w)
+    abbrev bytes : List ℕ
+    bytes = item_bytes amount weight x
+
+    sound : fault_at fault (placed s (row_start c.head) bytes) c.head ≡ None
+    sound = sym (ap (λ l. fault_at fault l c.head) row.bytes) ∙ row.sound
+
+    -- while the cursor is as it was
+    pub row_kept : Kept kind fault c t
+    row_kept = subst (Kept kind fault c) (sym row.bytes) (kept_written kind fault c s bytes refl w some sound)
+
+    module _ (d : Cursor) (u : List ℕ) (next : d ≡ turned_on c) (turn : u ≡ placed t 8 (turn_bytes d)) where
+      turned : u ≡ recorded c bytes s
+      turned = turn ∙ (λ i. placed (row.bytes i) 8 (turn_bytes (next i)))
+
+      pub store_kept : Kept kind fault d u
+      store_kept = subst (λ e. Kept kind fault e u) (sym next) (subst (Kept kind fault (turned_on c)) (sym turned) (kept_after kind fault c s bytes refl w some sound))
+
+      pub store_value : (empty : E) (joined : Item E → Item E → Item E) → Lawful (empty_item empty) joined → meaning_of empty decoded d u ≡ stored (empty_item empty) joined (meaning_of empty decoded c s) x
+      store_value empty joined laws =
+          let back = sym (ap (λ l. item_at decoded l c.head) row.bytes) ∙ row.back in
+          (λ i. meaning_of empty decoded (next i) (turned i)) ∙ value_after kind fault c s bytes refl w some decoded x back empty joined laws

@@ -3,6 +3,7 @@ use Rattle.std.specs.Prelude.{◌≡◌, ℕ, ◌+◌, ◌*◌, ◌<◌, ◌≤�
 use Rattle.std.specs.Bool.{then_some}
 use Rattle.std.specs.Option.{ok_or}
 use Rattle.std.specs.Result.{result_and}
+use Rattle.archive.specs.Rings.{wrong_span}
 use Rattle.image.specs.declared.fault.ImageFault.{ImageFault}
 use Rattle.image.specs.declared.fault.ImageFault.TheVariants.{Length, Kind as KindFault, Span, Held, Head, Offset, Total}
 use Rattle.image.specs.declared.header.Header.{Header}
@@ -21,7 +22,7 @@ abbrev pub kind_fault : ℕ → Header → Option ImageFault
 kind_fault kind h = then_some (not (h.kind == kind)) KindFault
 
 abbrev pub span_fault : Header → Option ImageFault
-span_fault h = then_some (nat_lt h.span 1 || nat_lt 3000 h.span) Span
+span_fault h = then_some (wrong_span h.span) Span
 
 abbrev pub held_fault : Header → Option ImageFault
 held_fault h = then_some (nat_lt h.span h.held) Held

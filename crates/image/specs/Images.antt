@@ -1,7 +1,8 @@
 -- What is wrong with an image, and what rows it holds. Assumes nothing.
-use Rattle.std.specs.Prelude.{ℕ, ◌+◌, ◌-◌, cond, List, ◌++◌, map, take, drop, ℤ, Option, nat_lt}
+use Rattle.std.specs.Prelude.{ℕ, ◌+◌, ◌-◌, cond, List, map, ℤ, Option, nat_lt}
 use Rattle.std.specs.List.{range_with_len}
 use Rattle.std.specs.Option.{option_map}
+use Rattle.archive.specs.Rings.{from_place}
 use Rattle.consolidation.specs.declared.item.Item.{Item}
 use Rattle.image.specs.declared.fault.BadElement.{BadElement}
 use Rattle.element.specs.declared.fault.ElementFault.{ElementFault}
@@ -23,7 +24,7 @@ image_fault kind fault s = front_fault kind s or option_map Element (earliest (b
 
 -- The places of the rows that are held, the oldest first: from the head on, and then from place 0. Until the ring is full the head is past them all.
 abbrev pub places : Header → List ℕ
-places h = drop h.head (range_with_len 0 h.held) ++ take h.head (range_with_len 0 h.held)
+places h = from_place h.head (range_with_len 0 h.held)
 
 -- the rows of an image, the oldest first
 abbrev pub rows_in : {E : Type 0} → (ℤ → ℕ → E) → List ℕ → List (Item E)

@@ -2,8 +2,8 @@
 use Rattle.std.specs.Prelude.{◌≡◌, ℕ, ◌+◌, ◌-◌, ◌*◌, ◌/◌, ◌<◌, cond, List, ◌++◌, map, length, replicate, ℤ, None, Option, ◌==◌}
 use Rattle.std.specs.List.{range_with_len}
 use Rattle.archive.specs.Entries.{empty_item}
-use Rattle.archive.specs.Meanings.{Meaning, ending}
-use Rattle.archive.specs.Rings.{Turning, cursor, ring_rows, ring_span, turned_on}
+use Rattle.archive.specs.Meanings.{Meaning}
+use Rattle.archive.specs.Rings.{Turning, cursor, ring_meaning, ring_span, turned_on}
 use Rattle.archive.specs.declared.cursor.Cursor.{Cursor}
 use Rattle.lent_bytes.specs.Placed.{placed}
 use Rattle.consolidation.specs.declared.item.Item.{Item}
@@ -56,7 +56,7 @@ slots decoded span s = map (item_at decoded s) (range_with_len 0 span)
 
 -- what a ring means
 abbrev pub meaning_of : {E : Type 0} → E → (ℤ → ℕ → E) → Cursor → List ℕ → Meaning (Item E)
-meaning_of empty decoded c s = ending (empty_item empty) c.span (ring_rows c (slots decoded c.span s))
+meaning_of empty decoded c s = ring_meaning (empty_item empty) c (slots decoded c.span s)
 
 module _ (kind : ℕ) (fault : ℤ → ℕ → Option ElementFault) where
   -- what a ring keeps to: its header is in the bytes, and no row that is held has a bad element

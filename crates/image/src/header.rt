@@ -1,17 +1,17 @@
 // The six numbers at the start of an image, and what can be wrong with them.
-ghost use Rattle.std.specs.Prelude.{◌≡◌, ◌≤◌, ◌++◌, length};
+ghost use Rattle.std.specs.Prelude.{◌≡◌, ◌<◌, ◌≤◌, length};
 ghost use Rattle.lent_bytes.specs.Placed.{placed};
 ghost use Rattle.element.specs.Faults.{unless};
 ghost use Rattle.image.specs.Headers.{header_in, length_fault, kind_fault, span_fault, held_fault, head_kept, head_fault, offset_fault, total_fault, header_fault, front_fault, kind_read};
 ghost use Rattle.element.specs.Kinds.{number_of_kind};
-ghost use Rattle.image.specs.Numbers.{bytes32};
+ghost use Rattle.image.specs.Images.{place_of};
 ghost use Rattle.image.specs.Rings.{header_bytes, turn_bytes};
 
 use crate::fault::ImageFault;
 use crate::number::{field, numbers, put_numbers};
 use crate::row::ROW;
+use archive::cursor::{Cursor, wrong_span};
 // The most rows that an image can have room for.
-use archive::cursor::Cursor;
 pub use archive::cursor::MOST_ROWS;
 use element::kind::Kind;
 
@@ -96,7 +96,7 @@ impl Header {
     fn check_span(&self) -> Result<(), ImageFault>
         ensures { result ≡ unless (span_fault self.now) tt }
     {
-        if self.span < 1 || self.span > MOST_ROWS {
+        if wrong_span(self.span as usize) {
             return Err(ImageFault::Span);
         }
         Ok(())
@@ -148,6 +148,19 @@ impl Header {
             return Err(ImageFault::Total);
         }
         Ok(())
+    }
+
+    // Where the row of an index stands, the oldest being the first. `Cursor::place` counts from the newest: by it, an image would need a cursor beside its header.
+    pub(crate) fn place_of(&self, index: u32) -> u32
+        requires { (self.now.head ≤ self.now.held) × (index < self.now.held) }
+        ensures { result ≡ place_of self.now.head self.now.held index }
+    {
+        let after_head = self.held - self.head;
+        if index < after_head {
+            self.head + index
+        } else {
+            index - after_head
+        }
     }
 
     // The first fault that applies.

@@ -1,10 +1,11 @@
-// Numbers as bytes, the lowest byte first, each at its place in the format, which is another at each call and goes nowhere.
+// Numbers as bytes, the lowest byte first. Each call names a place of the format, and none answers where it ends: bytes and place are no type.
 ghost use Rattle.std.specs.Prelude.{◌≡◌, ◌+◌, ◌*◌, ◌≤◌, length, map, take, drop};
 ghost use Rattle.std.specs.List.{flat_map, range_with_len};
 ghost use Rattle.lent_bytes.specs.Placed.{placed};
 ghost use Rattle.image.specs.Numbers.{le32, bytes32};
 
 use lent_bytes::put;
+use std::array;
 
 // The bytes of a number, from a place on.
 pub(crate) fn field<const N: usize>(bytes: &[u8], at: usize) -> [u8; N]
@@ -27,12 +28,7 @@ pub(crate) fn numbers<const N: usize>(bytes: &[u8], at: usize) -> [u32; N]
     requires { at + 4 * N ≤ length bytes.now }
     ensures { result ≡ map (λ k. le32 bytes.now (at + 4 * k)) (range_with_len 0 N) }
 {
-    // `array::from_fn` promises nothing of its closure's calls that would tell the numbers.
-    let mut numbers = [0; N];
-    for (k, number) in numbers.iter_mut().enumerate() {
-        *number = u32::from_le_bytes(field(bytes, at + 4 * k));
-    }
-    numbers
+    array::from_fn(|k| u32::from_le_bytes(field(bytes, at + 4 * k)))
 }
 
 pub(crate) fn put_numbers<const N: usize>(bytes: &mut [u8], at: usize, numbers: [u32; N])

@@ -8,7 +8,7 @@ ghost use Rattle.archive.specs.Meanings.{asked};
 ghost use Rattle.consolidation.specs.declared.item.Item.{Item};
 ghost use Rattle.element.specs.Faults.{unless};
 ghost use Rattle.image.specs.Headers.{header_in};
-ghost use Rattle.image.specs.Images.{bad_element, image_fault, place_of, rows_in};
+ghost use Rattle.image.specs.Images.{bad_element, image_fault, rows_in};
 ghost use Rattle.element.specs.Kinds.{number_of_kind};
 ghost use Rattle.image.specs.Opened.{Opened, Ruled, image_meaning};
 ghost use Rattle.image.specs.Rows.{row_start};
@@ -22,6 +22,7 @@ use consolidation::monoid::Monoid;
 use element::coded::Coded;
 use std::marker::{Model, PhantomData};
 
+// The header is read from the bytes once, where they are checked; `opened` ties the two, and the bytes are lent.
 #[derive(Drop)]
 pub struct Image<'a, E: Coded> {
     bytes: &'a [u8],
@@ -67,19 +68,6 @@ fn check<E: Coded + Copy>(bytes: &[u8]) -> Result<Header, ImageFault>
     Ok(header)
 }
 
-// Where the row of an index stands, the oldest being the first. `Cursor::place` counts from the newest: by it, an image would need a cursor beside its header.
-fn place_of(head: u32, held: u32, index: u32) -> u32
-    requires { (head ≤ held) × (index < held) }
-    ensures { result ≡ place_of head held index }
-{
-    let after_head = held - head;
-    if index < after_head {
-        head + index
-    } else {
-        index - after_head
-    }
-}
-
 impl<'a, E: Coded + Copy> Image<'a, E> {
     // The image of these bytes, or the first fault that they have as one of `E`'s kind.
     pub fn open(bytes: &'a [u8]) -> Result<Image<'a, E>, ImageFault>
@@ -103,8 +91,7 @@ impl<'a, E: Coded + Copy> Image<'a, E> {
         }
     }
 
-    // An image that is opened answers as an end does, and is no archive, since it has no store.
-    // How many items make one row.
+    // How many items make one row. Here and below an image answers as an end does, and is no archive, since it has no store.
     pub fn width(&self) -> u32
         ensures { result ≡ (image_meaning E.Monoid.empty E.Coded.decoded self.now.bytes.now).width }
     {
@@ -150,12 +137,10 @@ impl<'a, E: Coded + Copy> Image<'a, E> {
     pub fn row(&self, index: u32) -> Option<Item<E>>
         ensures { result ≡ slice_get (rows_in E.Coded.decoded self.now.bytes.now) index }
     {
-        let head = self.header.head;
-        let held = self.header.held;
-        if index >= held {
+        if index >= self.header.held {
             return None;
         }
-        row_at(self.bytes, place_of(head, held, index))
+        row_at(self.bytes, self.header.place_of(index))
     }
 
     // The rows that are held, the oldest first.
@@ -187,7 +172,7 @@ impl<'i, 'a, E: Coded + Copy> Iterator for Rows<'i, 'a, E> {
 
     ghost remaining = { item_count (λ rest. rest) };
 
-    #[tactic(auto, using(crate::proofs::Left::none_left, crate::proofs::Left::one_left))]
+    #[tactic(auto, using(crate::proofs::Left::none_left))]
     fn next(&mut self) -> Option<Item<E>> {
         let row = self.image.row(self.index)?;
         self.index += 1;

@@ -7,14 +7,14 @@ ghost use Rattle.archive.specs.Rings.{cursor};
 ghost use Rattle.archive.specs.declared.refusal.Refusal.TheVariants.{Span};
 ghost use Rattle.consolidation.specs.Items.{item_joined};
 ghost use Rattle.element.specs.Kinds.{number_of_kind};
-ghost use Rattle.image.specs.RingImages.{ring_sound, ImageOfRing};
+ghost use Rattle.image.specs.RingImages.{image_ring_sound, ImageOfRing};
 ghost use Rattle.image.specs.Rings.{rows_for, image_span, header_of, laid_out, recorded, item_bytes, meaning_of, Kept, Shows};
 
 use crate::header::{HEADER, Header, write_header, write_turn};
 use crate::opened::Image;
 use crate::row::{ROW, row_at, write_row};
 use archive::archive::Archive;
-use archive::cursor::Cursor;
+use archive::cursor::{Cursor, wrong_span};
 use archive::entry::WHOLE;
 use archive::refusal::Refusal;
 use consolidation::item::Item;
@@ -23,6 +23,7 @@ use element::coded::Coded;
 use element::kind::Kind;
 use std::marker::PhantomData;
 
+// The bytes stand beside the cursor, which says which rows are held: they are lent.
 #[derive(Drop)]
 pub struct ImageRing<'a, E: Coded> {
     bytes: &'a mut [u8],
@@ -72,7 +73,7 @@ impl<'a, E: Coded + Copy> ImageRing<'a, E> {
     pub fn check(bytes: &[u8]) -> Result<(), Refusal>
         ensures { result ≡ refused_if (image_span (length bytes.now) == 0) Span }
     {
-        if Cursor::new(rows_for(bytes.len())).span == 0 {
+        if wrong_span(rows_for(bytes.len())) {
             return Err(Refusal::Span);
         }
         Ok(())
@@ -116,7 +117,7 @@ impl<'a, E: Coded + Copy> Archive for ImageRing<'a, E> {
 
     ghost meaning = { λ s. meaning_of E.Monoid.empty E.Coded.decoded s.cursor s.bytes.now };
 
-    ghost sound = { λ s. ring_sound E.Monoid.empty E.Coded.decoded s.cursor s.bytes.now s.kept.turning };
+    ghost sound = { λ s. image_ring_sound E.Monoid.empty E.Coded.decoded s.cursor s.bytes.now s.kept.turning };
 
     // Writes the item as the newest row, over the oldest when the ring is full.
     fn store(&mut self, item: Item<E>)
@@ -140,7 +141,7 @@ impl<'a, E: Coded + Copy> Archive for ImageRing<'a, E> {
         row_at(self.bytes, place)
     }
 
-    // Here and in the other ends alike: with one impl for all ends, code that is generic over layers gets no proof.
+    // Here and in the other ends alike: with one impl for all ends, code that is generic over archives and makes a layer gets no proof.
     fn width(&self) -> u32 {
         1
     }

@@ -36,7 +36,7 @@ pub(crate) fn read_row<E: Coded + Copy>(bytes: &[u8], place: u32) -> Result<Item
     Ok(Item { element, known, of })
 }
 
-// That item; none where its element has a fault, which no row has that a ring or an image holds.
+// That item, or nothing where its element has a fault. No row that a ring or an image holds has one.
 pub(crate) fn row_at<E: Coded + Copy>(bytes: &[u8], place: u32) -> Option<Item<E>>
     requires { row_start place + 20 ≤ length bytes.now }
     ensures { result ≡ result_ok (unless (fault_at E.Coded.fault bytes.now place) (item_at E.Coded.decoded bytes.now place)) }

@@ -66,7 +66,7 @@ impl<A: Archive> Archive for AllowanceLayer<A> {
         self.below.width()
     }
 
-    // Told as below, here and in the other layer: one impl for both would be a second that could match, as one for all ends was.
+    // Told as below, here and in the other layer, by one call of the layer's own field: no trait could say it in less.
     fn span(&self) -> u32 {
         self.below.span()
     }

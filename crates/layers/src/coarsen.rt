@@ -82,7 +82,7 @@ impl<A: Archive> Archive for Coarsen<A> {
 
     fn store(&mut self, item: A::Item) {
         let joined = self.part.join(item);
-        if self.count as u64 + 1 < self.factor as u64 {
+        if self.count + 1 < self.factor {
             self.part = joined;
             self.count += 1;
         } else {
@@ -97,10 +97,10 @@ impl<A: Archive> Archive for Coarsen<A> {
     }
 
     fn width(&self) -> u32 {
-        self.factor.wrapping_mul(self.below.width())
+        self.factor * self.below.width()
     }
 
-    // Told as below, here and in the other layer: one impl for both would be a second that could match, as one for all ends was.
+    // Told as below, here and in the other layer, by one call of the layer's own field: no trait could say it in less.
     fn span(&self) -> u32 {
         self.below.span()
     }
@@ -110,9 +110,7 @@ impl<A: Archive> Archive for Coarsen<A> {
     }
 
     fn begun(&self) -> u32 {
-        self.factor
-            .wrapping_mul(self.below.begun())
-            .wrapping_add(self.count)
+        self.factor * self.below.begun() + self.count
     }
 
     fn part(&self) -> A::Item {

@@ -47,7 +47,7 @@ fn show_any(text: &mut Text, bytes: &[u8]) -> Result<(), Stop>
     }
 }
 
-// The same, and a fault is listed too. A `Stop` ends here, so that each of its cases is told.
+// The same, and a fault is listed too. Each case of a `Stop` is answered in its own way: a closure for the errors would hold the same `match`.
 fn put_listing(text: &mut Text, bytes: &[u8]) -> Result<(), Full>
     ensures text { Extends text.old (listing bytes.now) result text.new }
     ensures fits { text.old.end + 162018 ≤ length text.old.bytes.now → is_ok result ≡ true }

@@ -1,4 +1,4 @@
-// The parts of a line, put at the end of a text.
+// The parts of a line, put at the end of a text. They are no `Display`: std's `Write` promises nothing of a writer that has no room.
 ghost use Rattle.std.specs.Prelude.{◌∷◌};
 ghost use Rattle.std.specs.Fmt.{signed_decimal};
 ghost use Rattle.listing.specs.Lines.{ending};

@@ -47,7 +47,7 @@ impl<E: Consolidation + Copy> Archive for LatestRow<E> {
         if age == 0 { self.row } else { None }
     }
 
-    // Here and in the other ends alike: with one impl for all ends, code that is generic over layers gets no proof.
+    // Here and in the other ends alike: with one impl for all ends, code that is generic over archives and makes a layer gets no proof.
     fn width(&self) -> u32 {
         1
     }

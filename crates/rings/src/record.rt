@@ -1,13 +1,12 @@
 // A ring of rows in memory that is lent.
-ghost use Rattle.std.specs.Prelude.{◌≡◌, length, if◌then◌else◌, Some, None, nat_lt, slice_index_or, slice_set};
-ghost use Rattle.consolidation.specs.declared.item.Item.{Item};
+ghost use Rattle.std.specs.Prelude.{◌≡◌, length, if◌then◌else◌, nat_lt, slice_set};
 ghost use Rattle.consolidation.specs.Items.{item_joined};
 ghost use Rattle.archive.specs.Entries.{empty_item};
 ghost use Rattle.archive.specs.declared.refusal.Refusal.TheVariants.{Span};
 ghost use Rattle.archive.specs.Meanings.{fresh, stored};
 ghost use Rattle.archive.specs.Refusals.{refused_if};
-ghost use Rattle.archive.specs.Rings.{wrong_span, ring_span, turned_on, Turning};
-ghost use Rattle.rings.specs.Records.{ring_meaning, ring_sound};
+ghost use Rattle.archive.specs.Rings.{wrong_span, ring_span, ring_meaning, turned_on, Turning};
+ghost use Rattle.archive.specs.RingsLemmas.{held_within, ring_sound};
 
 use archive::archive::Archive;
 use archive::cursor::{Cursor, wrong_span};
@@ -18,6 +17,7 @@ use consolidation::item::Item;
 use consolidation::monoid::Monoid;
 
 // An archive of as many rows as are lent. Over no row, or over more than 3,000, it has span 0 and never writes.
+// The rows stand beside the cursor, which says which are held: they are lent, and what writes them is given the slice, as the project asks.
 #[derive(Drop)]
 pub struct RecordRing<'a, E> {
     rows: &'a mut [Item<E>],
@@ -26,7 +26,7 @@ pub struct RecordRing<'a, E> {
     ghost span_is: { cursor.span ≡ ring_span (length rows.now) },
 }
 
-// Writes one place, if there is such a place: nothing is asked of it, so that its promise holds of every slice.
+// Writes one place, if there is such a place. It asks nothing of the place, so that its promise holds of every slice.
 fn put<E: Copy>(rows: &mut [Item<E>], place: u32, item: Item<E>)
     ensures { rows.new ≡ slice_set rows.old place item }
 {
@@ -60,13 +60,13 @@ impl<'a, E: Consolidation + Copy> RecordRing<'a, E> {
 impl<'a, E: Consolidation + Copy> Archive for RecordRing<'a, E> {
     type Item = Item<E>;
 
-    ghost meaning = { λ s. ring_meaning E.Monoid.empty s.cursor s.rows.now };
+    ghost meaning = { λ s. ring_meaning (empty_item E.Monoid.empty) s.cursor s.rows.now };
 
-    ghost sound = { λ s. ring_sound E.Monoid.empty s.cursor s.rows.now s.turning s.span_is };
+    ghost sound = { λ s. ring_sound s.cursor s.rows.now (empty_item E.Monoid.empty) s.turning (held_within s.cursor s.rows.now s.turning s.span_is) };
 
     // One place is written, in turn from place 0; with span 0 none is.
     fn store(&mut self, item: Item<E>)
-        ensures value { ring_meaning E.Monoid.empty self.new.cursor self.new.rows.now ≡ stored (empty_item E.Monoid.empty) (item_joined E.Monoid.joined) (ring_meaning E.Monoid.empty self.old.cursor self.old.rows.now) item }
+        ensures value { ring_meaning (empty_item E.Monoid.empty) self.new.cursor self.new.rows.now ≡ stored (empty_item E.Monoid.empty) (item_joined E.Monoid.joined) (ring_meaning (empty_item E.Monoid.empty) self.old.cursor self.old.rows.now) item }
         ensures lender { self.new.rows.ghost_name ≡ self.old.rows.ghost_name }
         ensures rows { self.new.rows.now ≡ if nat_lt 0 self.old.cursor.span then slice_set self.old.rows.now self.old.cursor.head item else self.old.rows.now }
         ensures cursor { self.new.cursor ≡ if nat_lt 0 self.old.cursor.span then turned_on self.old.cursor else self.old.cursor }
@@ -83,7 +83,7 @@ impl<'a, E: Consolidation + Copy> Archive for RecordRing<'a, E> {
         Some(self.rows[place as usize])
     }
 
-    // Here and in the other ends alike: with one impl for all ends, code that is generic over layers gets no proof.
+    // Here and in the other ends alike: with one impl for all ends, code that is generic over archives and makes a layer gets no proof.
     fn width(&self) -> u32 {
         1
     }

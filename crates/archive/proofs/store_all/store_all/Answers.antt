@@ -1,11 +1,7 @@
-use Rattle.std.proofs.Common.{◌<◌, ap, ◌∙◌, subst, take_all, rules}
-use Rattle.std.proofs.lemmas.List.Sums.{fold_more}
+use Rattle.std.proofs.Common.{◌<◌, ap, ◌∙◌, subst, take_all}
 use Rattle.archive.specs.Meanings.{stored_all}
 use Rattle.archive.proofs.Grouping.{law_of_archives}
 use Rattle.archive.proofs.store_all.store_all.Goals as goal
-
-pub loop-item-preserved : goal.loop-item-preserved
-loop-item-preserved g c = search (rules, fold_more)
 
 pub returns : goal.returns
 returns g c =

@@ -5,9 +5,7 @@ use Rattle.image.specs.declared.header.Header.{Header}
 use Rattle.element.specs.declared.kind.Kind.{Kind}
 use Rattle.element.specs.Faults.{unless}
 use Rattle.image.specs.Headers.{header_in, front_fault}
-use Rattle.image.specs.Images.{bad_element}
 use Rattle.element.specs.Kinds.{number_of_kind}
-use Rattle.image.proofs.Faults.{earliest_more}
 use Rattle.image.proofs.Images.{Accepted, accepted, row_within, refused_front, refused_row}
 use Rattle.image.proofs.opened.check.Goals as goal
 
@@ -25,6 +23,7 @@ returns-in_err-header g c =
     let p = err_from_is_err_and c.from_residual.result c.from_residual.ensures.1 in
     rw (p.1, p.2) (refused_front (number_of_kind kind) s g.E.Coded.fault _ (of_kind c.KIND.result kind s _ c.KIND.ensures c.in_err-header.ensures))
 
+-- the check finds this alone, but not with its limits halved
 pub check_row-requires : goal.check_row-requires
 check_row-requires g c =
     let s = c.args.bytes.now in
@@ -41,7 +40,3 @@ returns-in_err-check_row g c =
     rw (p.1, p.2)
     (refused_row (number_of_kind kind) s g.E.Coded.fault h c.loop-place.place _
     (header c.KIND.result kind s h c.KIND.ensures c.in_ok-header.ensures) c.loop-place-test.true c.loop-place.invariant (sym c.in_err-check_row.ensures))
-
-pub loop-place-preserved : goal.loop-place-preserved
-loop-place-preserved g c =
-    earliest_more (bad_element g.E.Coded.fault c.args.bytes.now) c.loop-place.place c.loop-place.invariant (sym c.in_ok-check_row.ensures)

@@ -1,8 +1,8 @@
-use Rattle.std.proofs.Common.{◌≡◌, [], ◌∷◌, ◌++◌, sym, ap, ◌∙◌, subst, append_assoc, append-nil}
+use Rattle.std.proofs.Common.{◌≡◌, [], ◌∷◌, ◌++◌, sym, ap, ◌∙◌, subst, append_assoc}
 use Rattle.std.specs.List.{flat_map}
 use Rattle.element.specs.Kinds.{number_of_kind}
 use Rattle.image.specs.Images.{rows_in}
-use Rattle.lent_bytes.specs.Texts.{Grown, NoRoom}
+use Rattle.lent_bytes.specs.Texts.{NoRoom}
 use Rattle.lent_bytes.proofs.Growing.{grown_none}
 use Rattle.listing.specs.Listing.{item_line}
 use Rattle.listing.proofs.Listed.{rows_listed}
@@ -36,10 +36,3 @@ returns-in_err-put_row g c =
     let all = ap (λ l. flat_map tells (done ++ l)) (sym c.in-Some.ensures.steps) ∙ c.loop-row.invariant.0 in
     extends_not c.args.text.now c.put_row.new.text _ c.from_residual.result c.from_residual.ensures.0
     (subst (NoRoom c.args.text.now) all (short_one tells done c.in-Some.row _ c.loop-row.invariant.1 c.in_err-put_row.ensures))
-
-pub returns : goal.returns
-returns g c =
-    let tells = item_line g.E.Consolidation.amount g.E.Consolidation.weight in
-    let done = c.loop-row.yielded in
-    let all = ap (flat_map tells) (sym (append-nil done) ∙ ap (λ l. done ++ l) (sym c.in-None.ensures.steps.0)) ∙ c.loop-row.invariant.0 in
-    subst (λ l. Grown c.args.text.now l c.loop-row.text) all c.loop-row.invariant.1

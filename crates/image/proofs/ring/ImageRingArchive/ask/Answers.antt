@@ -1,13 +1,7 @@
 use Rattle.std.proofs.Common.{sym, ◌∙◌}
 use Rattle.element.specs.Kinds.{number_of_kind}
-use Rattle.image.proofs.Asked.{asked_none, asked_room, asked_row}
+use Rattle.image.proofs.Asked.{asked_none, asked_row}
 use Rattle.image.proofs.ring.ImageRingArchive.ask.Goals as goal
-
-pub row_at-requires : goal.row_at-requires
-row_at-requires g c =
-    let ring = c.args.self.now in
-    let there = sym (c.place.ensures ring.kept.turning) ∙ c.in_ok-place.was in
-    asked_room (number_of_kind g.E.Coded.KIND) g.E.Coded.fault ring.cursor ring.bytes.now ring.kept g.E.Monoid.empty g.E.Coded.decoded c.args.age _ there
 
 pub returns : goal.returns
 returns g c =

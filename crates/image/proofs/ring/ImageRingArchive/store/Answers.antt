@@ -2,7 +2,7 @@ use Rattle.std.proofs.Common.{◌<◌, arith}
 use Rattle.consolidation.specs.ItemsLemmas.{item_lawful}
 use Rattle.consolidation.specs.Items.{item_joined}
 use Rattle.element.specs.Kinds.{number_of_kind}
-use Rattle.image.proofs.Recorded.{row_kept, always_written, record_kept, record_value}
+use Rattle.image.proofs.Recorded.{row_kept, store_kept, store_value}
 use Rattle.image.proofs.ring.ImageRingArchive.store.Goals as goal
 
 pub invariant_of-self : goal.invariant_of-self
@@ -14,20 +14,12 @@ invariant_of-self g c =
 pub invariant_of-self-2 : goal.invariant_of-self-2
 invariant_of-self-2 g c =
     let ring = c.args.self.now in
-    let kind = number_of_kind g.E.Coded.KIND in
-    let s = ring.bytes.now in
-    let t = c.write_row.new.bytes in
     let some : 0 < ring.cursor.span = omega arith in
-    let row = always_written g.E.Consolidation.amount g.E.Consolidation.weight g.E.Coded.fault g.E.Coded.decoded kind ring.cursor s c.args.item t some ring.kept c.write_row.result c.write_row.ensures in
-    record { kept = record_kept g.E.Consolidation.amount g.E.Consolidation.weight g.E.Coded.fault g.E.Coded.decoded ring.cursor s c.args.item t c.write_turn.new.bytes c.next-next.result row.1 c.next-next.ensures c.write_turn.ensures kind some ring.kept }
+    record { kept = store_kept g.E.Consolidation.amount g.E.Consolidation.weight g.E.Coded.fault g.E.Coded.decoded (number_of_kind g.E.Coded.KIND) ring.cursor ring.bytes.now c.args.item c.write_row.new.bytes some ring.kept c.write_row.result c.write_row.ensures c.next-next.result c.write_turn.new.bytes c.next-next.ensures c.write_turn.ensures }
 
 pub returns-clause-value : goal.returns-clause-value
 returns-clause-value g c =
     let ring = c.args.self.now in
-    let kind = number_of_kind g.E.Coded.KIND in
-    let s = ring.bytes.now in
-    let t = c.write_row.new.bytes in
     let some : 0 < ring.cursor.span = omega arith in
-    let row = always_written g.E.Consolidation.amount g.E.Consolidation.weight g.E.Coded.fault g.E.Coded.decoded kind ring.cursor s c.args.item t some ring.kept c.write_row.result c.write_row.ensures in
-    record_value g.E.Consolidation.amount g.E.Consolidation.weight g.E.Coded.fault g.E.Coded.decoded ring.cursor s c.args.item t c.write_turn.new.bytes c.next-next.result row.1 c.next-next.ensures c.write_turn.ensures kind some ring.kept
+    store_value g.E.Consolidation.amount g.E.Consolidation.weight g.E.Coded.fault g.E.Coded.decoded (number_of_kind g.E.Coded.KIND) ring.cursor ring.bytes.now c.args.item c.write_row.new.bytes some ring.kept c.write_row.result c.write_row.ensures c.next-next.result c.write_turn.new.bytes c.next-next.ensures c.write_turn.ensures
     g.E.Monoid.empty (item_joined g.E.Monoid.joined) (item_lawful g.met.E.Monoid.lawful)
