@@ -17,7 +17,6 @@ overflow_add-self g c =
     let within = slice_get_within (rows_in g.E.Coded.decoded s) c.self.inside.index c.in_ok-row.row (sym c.in_ok-row.ensures) in
     omega (arith, within, length-rows (header_in s) (item_at g.E.Coded.decoded s), sound.few_rows, sound.held_within)
 
--- the check finds this alone, but not with its limits halved
 pub returns-clause-steps : goal.returns-clause-steps
 returns-clause-steps g c = sym c.self.view_is ∙ one_left (rows_in g.E.Coded.decoded c.self.inside.image.now.bytes.now) c.self.inside.index c.in_ok-row.row c.in_ok-row.ensures
 
