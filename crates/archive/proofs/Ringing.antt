@@ -1,11 +1,11 @@
 -- One store into a ring of places, and one row out of it. Assumes nothing.
-use Rattle.std.proofs.Common.{◌≡◌, ℕ, ◌+◌, ◌-◌, ◌<◌, ◌≤◌, cond, ltb, List, [], ◌∷◌, ◌++◌, length, get_or, take, drop, set, Some, None, Option, sym, ap, ◌∙◌, inl, inr, arith}
+use Rattle.std.proofs.Common.{◌≡◌, ℕ, ◌+◌, ◌-◌, ◌<◌, ◌≤◌, cond, ltb, List, [], ◌∷◌, ◌++◌, length, get_or, take, drop, set, Some, None, Option, sym, refl, ap, ◌∙◌, inl, inr, arith}
 use Rattle.std.proofs.lemmas.List.{append-nil, append_assoc, length-append, length-take, length-drop, length-set, length_push, take_all, take_more_set, drop_all, drop-drop, drop-set-lt, drop-append-le, get_or_append_left, get_or-append_right, get_or-drop, get_or-take}
 use Rattle.std.proofs.lemmas.Bool.{cases_lt, lt-ltb, le-ltb, cond-true, cond-false}
 use Rattle.std.proofs.lemmas.Bool.Decides.{nat_tests}
 use Rattle.archive.specs.declared.cursor.Cursor.{Cursor}
 use Rattle.archive.specs.Meanings.{newest}
-use Rattle.archive.specs.Rings.{ring_span, Turning, next_place, turned_on, from_place, ring_rows, age_place}
+use Rattle.archive.specs.Rings.{ring_span, cursor, Turning, next_place, turned_on, from_place, ring_rows, age_place}
 use Rattle.archive.specs.RingsLemmas.{ring_length}
 use Rattle.archive.proofs.Newest.{newest_all}
 
@@ -14,6 +14,10 @@ some_same a b e = cc
 
 none_some : {X : Type 0} (b : X) → ◌≡◌ {A = Option X} None (Some b) → ⊥
 none_some b e = let z : ◌≡◌ {A = ℕ} 0 1 = cc in omega arith
+
+-- a cursor that holds no row is in turn
+pub turning_new : (places : ℕ) → Turning (cursor (ring_span places) 0 0)
+turning_new places = record { few = grind (arith, nat_tests); within = omega arith; next_free = λ h. refl; round = λ e h. h }
 
 -- a ring that has places has all that there are
 pub span_whole : (places : ℕ) → 0 < ring_span places → places ≡ ring_span places

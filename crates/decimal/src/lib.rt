@@ -2,7 +2,7 @@
 // The kit's `itoa` spells numbers too; here they are spelled by code of this crate, since must-fail edits turn its digits and its sign.
 #![tactic(auto)]
 
-ghost use Rattle.std.specs.Prelude.{◌≡◌, ◌+◌, ◌≤◌, length, drop, decimal};
+ghost use Rattle.std.specs.Prelude.{◌≡◌, ◌+◌, length, drop, decimal};
 ghost use Rattle.lent_bytes.specs.Placed.{Writes};
 ghost use Rattle.lent_bytes.specs.Texts.{Adds};
 ghost use Rattle.std.specs.Fmt.{signed_decimal};
@@ -12,30 +12,6 @@ use lent_bytes::text::{Full, Text};
 
 // The most bytes that an `i64` takes, a sign and nineteen digits; a `u64` takes no more. No memory is had for it.
 const LONGEST: usize = 20;
-
-// A number that is spelled at the end of a scratch.
-#[derive(Drop)]
-struct Spelled {
-    scratch: [u8; LONGEST],
-    start: usize,
-    ghost within: { start ≤ length scratch },
-}
-
-impl Spelled {
-    fn new(value: i64) -> Spelled
-        ensures { drop result.start result.scratch ≡ signed_decimal value }
-    {
-        let mut scratch = [0; LONGEST];
-        let start = spell(&mut scratch, value);
-        Spelled { scratch, start }
-    }
-
-    fn bytes(&self) -> &[u8]
-        ensures { result.now ≡ drop self.now.start self.now.scratch }
-    {
-        &self.scratch[self.start..]
-    }
-}
 
 // Spells `value` at the end of `scratch`, and answers where it begins.
 fn spell_digits(scratch: &mut [u8; LONGEST], value: u64) -> usize
@@ -74,14 +50,18 @@ fn spell(scratch: &mut [u8; LONGEST], value: i64) -> usize
 pub fn write(out: &mut [u8], at: usize, value: i64) -> Option<usize>
     ensures { Writes out.old at (signed_decimal value) result out.new }
 {
-    put(out, at, Spelled::new(value).bytes())
+    let mut scratch = [0; LONGEST];
+    let start = spell(&mut scratch, value);
+    put(out, at, &scratch[start..])
 }
 
 // The same at the end of a text.
 pub fn add(text: &mut Text, value: i64) -> Result<(), Full>
     ensures { Adds text.old (signed_decimal value) result text.new }
 {
-    text.put(Spelled::new(value).bytes())
+    let mut scratch = [0; LONGEST];
+    let start = spell(&mut scratch, value);
+    text.put(&scratch[start..])
 }
 
 #[cfg(test)]

@@ -31,7 +31,8 @@ impl TryFrom<u32> for Kind {
 
     fn try_from(number: u32) -> Result<Kind, UnknownKind> {
         [Kind::Min, Kind::Max, Kind::Last, Kind::Mean]
-            .into_iter()
+            .iter()
+            .copied()
             .find(|kind| kind.number() == number)
             .ok_or(UnknownKind(number))
     }

@@ -4,7 +4,6 @@ ghost use Rattle.std.specs.List.{flat_map, range_with_len};
 ghost use Rattle.lent_bytes.specs.Placed.{placed};
 ghost use Rattle.image.specs.Numbers.{le32, bytes32};
 
-use lent_bytes::put;
 use std::array;
 
 // The bytes of a number, from a place on.
@@ -12,15 +11,16 @@ pub(crate) fn field<const N: usize>(bytes: &[u8], at: usize) -> [u8; N]
     requires { at + N ≤ length bytes.now }
     ensures { result ≡ take N (drop at bytes.now) }
 {
-    *bytes[at..].first_chunk().unwrap()
+    let mut field = [0; N];
+    field.copy_from_slice(&bytes[at..at + N]);
+    field
 }
 
 pub(crate) fn put_field<const N: usize>(bytes: &mut [u8], at: usize, field: [u8; N])
     requires { at + N ≤ length bytes.old }
     ensures { bytes.new ≡ placed bytes.old at field.entry }
 {
-    // There is room, so it is put.
-    put(bytes, at, &field).unwrap();
+    bytes[at..at + N].copy_from_slice(&field);
 }
 
 // Numbers of four bytes, one after the other, from a place on.

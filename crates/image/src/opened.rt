@@ -23,12 +23,13 @@ use element::coded::Coded;
 use std::marker::{Model, PhantomData};
 
 // The header is read from the bytes once, where they are checked; `opened` ties the two, and the bytes are lent.
+// It counts as holding a `&mut`: beside lent memory in a type argument, as in a bank of readers, the check takes a ghost field only there.
 #[derive(Drop)]
 pub struct Image<'a, E: Coded> {
     bytes: &'a [u8],
     header: Header,
-    element: PhantomData<E>,
-    ghost opened: { Opened (number_of_kind E.Coded.KIND) E.Coded.fault header bytes.now },
+    element: PhantomData<(&'a mut (), E)>,
+    pub ghost opened: { Opened (number_of_kind E.Coded.KIND) E.Coded.fault header bytes.now },
 }
 
 // The rows of an image that are left, the oldest first; a clause sees their list.

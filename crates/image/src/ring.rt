@@ -29,7 +29,7 @@ pub struct ImageRing<'a, E: Coded> {
     bytes: &'a mut [u8],
     cursor: Cursor,
     element: PhantomData<E>,
-    ghost kept: { Kept (number_of_kind E.Coded.KIND) E.Coded.fault cursor bytes.now },
+    pub ghost kept: { Kept (number_of_kind E.Coded.KIND) E.Coded.fault cursor bytes.now },
 }
 
 // How many rows take so many bytes with the header. Where no number of rows does it is 0, as it is of a header alone: neither is a ring.

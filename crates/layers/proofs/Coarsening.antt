@@ -5,6 +5,15 @@ use Rattle.consolidation.specs.Laws.{Lawful}
 use Rattle.archive.specs.Meanings.{Meaning, Sound, newest, stored, grown, closed}
 use Rattle.layers.specs.Coarser.{Grouping, coarser, group_within}
 
+-- a store leaves the width as it is
+pub stored_width : {M : Type 0} (empty : M) (joined : M → M → M) (m : Meaning M) (x : M) → (stored empty joined m x).width ≡ m.width
+stored_width empty joined m x =
+    let part = joined m.part x in
+    elim (cases_lt (m.begun + 1) m.width) [
+      | inl l ↦ ap (λ n. n.width) (cond-true _ (grown m part) (closed empty m part) (lt-ltb _ _ l))
+      | inr l ↦ ap (λ n. n.width) (cond-false _ (grown m part) (closed empty m part) (le-ltb _ _ l))
+    ]
+
 module _ {M : Type 0} {empty : M} {joined : M → M → M} (laws : Lawful empty joined) where
   module _ (m : Meaning M) (sound : Sound m) (factor count : ℕ) (part : M) (grouping : Grouping empty m.width factor count part) (x : M) where
     -- the group goes down as one item

@@ -1,2 +1,3 @@
 pub mod Coarsening
 pub mod Factors
+pub mod Limiting

@@ -3,11 +3,12 @@ ghost use Rattle.std.specs.Prelude.{◌≡◌, ℕ, ◌*◌};
 ghost use Rattle.archive.specs.Meanings.{fresh};
 ghost use Rattle.archive.specs.Refusals.{refused_if};
 ghost use Rattle.archive.specs.declared.refusal.Refusal.TheVariants.{Factor};
-ghost use Rattle.layers.specs.Coarser.{unfit, fit_factor, coarser, Grouping, coarser_sound};
+ghost use Rattle.layers.specs.Coarser.{unfit, fit_factor, coarser, Grouping, Groups, coarse, coarse_sound};
 
 use archive::archive::Archive;
 use archive::refusal::Refusal;
 use consolidation::monoid::Monoid;
+use std::marker::Model;
 
 // The most items of a group.
 pub const MOST_FACTOR: u32 = 1_000;
@@ -23,7 +24,17 @@ pub struct Coarsen<A: Archive> {
     // The open group: how many items it has, and their joining.
     count: u32,
     part: A::Item,
-    ghost grouping: { Grouping A.Item.Monoid.empty (A.Archive.meaning below).width factor count part },
+}
+
+// A clause sees the fields. What they keep to is no ghost field: a layer over memory of its own could then not stand beside lent memory in a type argument, as in a bank of archives.
+impl<A: Archive> Model for Coarsen<A> {
+    ghost Value = { Groups A A.Item };
+
+    ghost view = { λ s. record { below = s.below; factor = s.factor; count = s.count; part = s.part } };
+
+    ghost inverse = { λ v. record { below = v.below; factor = v.factor; count = v.count; part = v.part } };
+
+    ghost invariant = { λ s. Grouping A.Item.Monoid.empty (A.Archive.meaning s.below).width s.factor s.count s.part };
 }
 
 fn is_unfit(factor: u32, width: u32) -> bool
@@ -65,9 +76,10 @@ impl<A: Archive> Coarsen<A> {
         }
     }
 
-    // The archive below, as it stands. Each layer has one line for its own field, and no trait could say it in less.
+    // The archive below, as it stands; and what the groups over it keep to, at every moment. Each layer has one line for its own field, and no trait could say it in less.
     pub fn below(&self) -> &A
-        ensures { result.now ≡ self.now.below }
+        ensures below { result.now ≡ self.now.below }
+        ensures kept { Grouping A.Item.Monoid.empty (A.Archive.meaning self.now.below).width self.now.factor self.now.count self.now.part }
     {
         &self.below
     }
@@ -76,9 +88,9 @@ impl<A: Archive> Coarsen<A> {
 impl<A: Archive> Archive for Coarsen<A> {
     type Item = A::Item;
 
-    ghost meaning = { λ s. coarser A.Item.Monoid.joined (A.Archive.meaning s.below) s.factor s.count s.part };
+    ghost meaning = { coarse A.Item.Monoid.joined A.Archive.meaning };
 
-    ghost sound = { λ s. coarser_sound A.Item.Monoid.empty A.Item.Monoid.joined (A.Archive.meaning s.below) s.factor s.count s.part (A.Archive.sound s.below) s.grouping };
+    ghost sound = { λ s. coarse_sound A.Item.Monoid.joined A.Archive.meaning s (A.Archive.sound s.below) };
 
     fn store(&mut self, item: A::Item) {
         let joined = self.part.join(item);

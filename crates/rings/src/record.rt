@@ -22,8 +22,8 @@ use consolidation::monoid::Monoid;
 pub struct RecordRing<'a, E> {
     rows: &'a mut [Item<E>],
     cursor: Cursor,
-    ghost turning: { Turning cursor },
-    ghost span_is: { cursor.span ≡ ring_span (length rows.now) },
+    pub ghost turning: { Turning cursor },
+    pub ghost span_is: { cursor.span ≡ ring_span (length rows.now) },
 }
 
 // Writes one place, if there is such a place. It asks nothing of the place, so that its promise holds of every slice.
