@@ -1,5 +1,5 @@
 // Joins items in groups for the archive below.
-ghost use Rattle.std.specs.Prelude.{◌≡◌, ℕ, ◌*◌};
+ghost use Rattle.std.specs.Prelude.{◌≡◌, ℕ, ◌+◌, ◌*◌};
 ghost use Rattle.archive.specs.Meanings.{fresh};
 ghost use Rattle.archive.specs.Refusals.{refused_if};
 ghost use Rattle.archive.specs.declared.refusal.Refusal.TheVariants.{Factor};
@@ -108,7 +108,10 @@ impl<A: Archive> Archive for Coarsen<A> {
         self.below.ask(age)
     }
 
-    fn width(&self) -> u32 {
+    fn width(&self) -> u32
+        ensures value { result ≡ self.now.factor * (A.Archive.meaning self.now.below).width }
+        ensures kept { Grouping A.Item.Monoid.empty (A.Archive.meaning self.now.below).width self.now.factor self.now.count self.now.part }
+    {
         self.factor * self.below.width()
     }
 
@@ -121,7 +124,10 @@ impl<A: Archive> Archive for Coarsen<A> {
         self.below.allowance()
     }
 
-    fn begun(&self) -> u32 {
+    fn begun(&self) -> u32
+        ensures value { result ≡ self.now.factor * (A.Archive.meaning self.now.below).begun + self.now.count }
+        ensures kept { Grouping A.Item.Monoid.empty (A.Archive.meaning self.now.below).width self.now.factor self.now.count self.now.part }
+    {
         self.factor * self.below.begun() + self.count
     }
 

@@ -1,4 +1,4 @@
-use Rattle.std.proofs.Common.{sym, ap, ◌∙◌}
+use Rattle.std.proofs.Common.{sym, ◌∙◌}
 use Rattle.layers.proofs.Limiting.{limited_asked}
 use Rattle.layers.proofs.allowance.AllowanceLayerArchive.ask.Goals as goal
 
