@@ -23,7 +23,7 @@ SEARCHES = [
     ("4 impls of std's traits", r"^impl.* (From|TryFrom|PartialEq|Ord|PartialOrd|Clone|Display|Debug|Default|Iterator)(<.*>)? for "),
     ("4 conversions by name", r"fn (number|numbered|byte|told|item_told|to_\w+|as_\w+|from_\w+)\b"),
     ("4 types without PartialEq", r"^#\[derive(_where)?\((?!.*PartialEq).*\]"),
-    ("5 a premise on a value", r"(well \w+(\.\w+)? →|well\b.*self\.(old|now) →|ring_well .* →|RingWell \S+ →|Opened .* →|Turning self →)"),
+    ("5 a premise on a value", r"(well \w+(\.\w+)? →|well\b.*self\.(old|now) →|ring_well .* →|RingWell .* →|Kept \(.* →|Opened .* →|Turning self →)"),
     ("5 a fact that is asked for", r"^\s*requires\b"),
     ("5 a buffer and a place in it", r"(out: &mut \[u8\], (at|index): usize|^\s*at: usize,|bytes: &(mut )?\[u8\], at: usize)"),
     ("6 arrays and slices with a length or a place beside", r"(: \[\w+; \w+\]|at: usize|end: usize|start: usize)"),

@@ -21,6 +21,11 @@ pub record Turning (c : Cursor) : Type 0 where
   pub next_free : c.held < c.span → c.head ≡ c.held
   pub round : c.held ≡ c.span → 0 < c.span → c.head < c.span
 
+-- a ring is well: its cursor turns over all of so many places, or over none where they are too many
+pub record RingWell (c : Cursor) (places : ℕ) : Type 0 where
+  pub turning : Turning c
+  pub span_is : c.span ≡ ring_span places
+
 -- the place after another, and after the last the first
 abbrev pub next_place : (span place : ℕ) → ℕ
 next_place span place = cond (nat_lt (place + 1) span) (place + 1) 0

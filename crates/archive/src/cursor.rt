@@ -51,7 +51,7 @@ impl Cursor {
     }
 
     // The place of the row of an age, 0 for the newest; none past the oldest.
-    // `Turning` is kept by each ring and is no ghost field here: whoever gives a struct with a `&mut`, in which another has a ghost field, to a generic function gets no proof.
+    // `Turning` is a part of what each ring keeps to, and no ghost field here: whoever gives a struct with a `&mut`, in which another has a ghost field, to a generic function gets no proof.
     pub fn place(self, age: u32) -> Option<u32>
         ensures { Turning self → result ≡ age_place self age }
     {

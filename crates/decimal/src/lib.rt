@@ -18,17 +18,17 @@ fn spell_digits(scratch: &mut [u8; LONGEST], value: u64) -> usize
     ensures text { drop result scratch.new ≡ decimal value }
     ensures start { result + length (decimal value) ≡ 20 }
 {
+    let mut start = LONGEST;
     let mut rest = value;
-    // By index: of `iter_mut` the loop's invariant does not see the scratch.
-    for start in (0..LONGEST).rev() {
+    // No `for` over a range: LLVM unrolls its twenty turns, and a short number pays for it.
+    loop {
+        start -= 1;
         scratch[start] = b'0' + (rest % 10) as u8;
         rest /= 10;
         if rest == 0 {
             return start;
         }
     }
-    // Twenty digits suffice.
-    unreachable!()
 }
 
 // The same, with a sign before the digits of a number below 0.

@@ -55,7 +55,8 @@ fn at_half(known: u32) -> Option<Item<Mean>>
 
 // 5 over 12 over an archive of one row, after 61 points with 7 for a minute.
 fn five_over_twelve() -> Coarsen<Coarsen<LatestRow<Mean>>>
-    ensures { ⟦<Coarsen<Coarsen<LatestRow<Mean>>> as Archive>⟧.meaning result ≡ stored_all none joined tower (replicate 61 point) }
+    ensures well { ⟦<Coarsen<Coarsen<LatestRow<Mean>>> as Archive>⟧.well result }
+    ensures means { ⟦<Coarsen<Coarsen<LatestRow<Mean>>> as Archive>⟧.meaning result ≡ stored_all none joined tower (replicate 61 point) }
 {
     let mut tower = Coarsen::new(Coarsen::new(LatestRow::new(), 12), 5);
     let point = Item {

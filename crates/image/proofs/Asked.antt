@@ -1,8 +1,9 @@
 -- The row of an age, in the bytes of a ring and in an image. Assumes nothing.
-use Rattle.std.proofs.Common.{◌≡◌, ℕ, ◌-◌, ◌<◌, ◌≤◌, List, length, get_or, ℤ, Some, None, Option, sym, ap, ◌∙◌, arith}
+use Rattle.std.proofs.Common.{◌≡◌, ℕ, ◌+◌, ◌-◌, ◌<◌, ◌≤◌, List, length, get_or, ℤ, Some, None, Option, sym, ap, ◌∙◌, arith}
 use Rattle.std.specs.List.{slice_get}
 use Rattle.std.proofs.lemmas.Option.{slice_get-get_or}
 use Rattle.std.specs.Result.{result_ok}
+use Rattle.std.proofs.lemmas.Bool.{le-ltb, cond-false}
 use Rattle.std.proofs.lemmas.List.FromFn.{length-map-range_with_len, get_or-map-range_with_len}
 use Rattle.archive.specs.Entries.{Counted, empty_item, item_counts}
 use Rattle.archive.specs.Meanings.{asked, ending}
@@ -15,7 +16,8 @@ use Rattle.consolidation.specs.declared.item.Item.{Item}
 use Rattle.element.specs.declared.fault.ElementFault.{ElementFault}
 use Rattle.element.specs.Faults.{unless}
 use Rattle.image.specs.Rings.{slots, meaning_of, Kept}
-use Rattle.image.specs.Rows.{fault_at, item_at}
+use Rattle.image.specs.Rows.{row_start, item_at, row_in}
+use Rattle.image.proofs.Shown.{kept_long}
 
 -- in a list of rows
 pub asked_index : {M : Type 0} (empty : M) (counts : Counted M) (span : ℕ) (rows : List M) (held age : ℕ) → held ≡ length rows → age < held → slice_get rows (held - 1 - age) ≡ asked empty counts (ending empty span rows) age
@@ -45,10 +47,12 @@ module _ (kind : ℕ) (fault : ℤ → ℕ → Option ElementFault) (c : Cursor)
     held : place < c.held
     held = place_held c age place w.turning there
 
-    pub asked_row : result_ok (unless (fault_at fault s place) (item_at decoded s place)) ≡ asked (empty_item empty) (item_counts empty) (meaning_of empty decoded c s) age
+    pub asked_row : row_in fault decoded s place ≡ asked (empty_item empty) (item_counts empty) (meaning_of empty decoded c s) age
     asked_row =
         let below = held in
         let within = w.turning.within in
-        ap (λ o. result_ok (unless o (item_at decoded s place))) (w.elements place held)
+        let long = kept_long kind fault c s w (omega arith) in
+        cond-false _ None _ (le-ltb (length s) (row_start place + 20) (omega arith))
+        ∙ ap (λ o. result_ok (unless o (item_at decoded s place))) (w.elements place held)
         ∙ ap Some (sym (get_or-map-range_with_len (item_at decoded s) 0 c.span place place (empty_item empty) (omega arith) (omega arith)))
         ∙ ring_found c places w.turning (empty_item empty) (item_counts empty) age place (empty_item empty) room there

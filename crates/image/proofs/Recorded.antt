@@ -81,18 +81,6 @@ module _ (kind : ℕ) (fault : ℤ → ℕ → Option ElementFault) (c : Cursor)
         | inr full ↦ grind (arith, nat_tests)
       ]
 
-  -- once the row is written, and the header is as it was
-  pub kept_written : fault_at fault written c.head ≡ None → Kept kind fault c written
-  kept_written sound = record {
-    turning = w.turning;
-    span_is = w.span_is ∙ ap image_span (sym length_written);
-    header_is = λ more. header_alike s written (alike_before s (row_start c.head) row 0 24 (let size = room in omega arith) (omega arith)) ∙ w.header_is more;
-    elements = λ place held. elim (cases_eq place c.head) [
-      | inl here ↦ ap (fault_at fault written) here ∙ sound
-      | inr apart ↦ fault_alike s written place (other place apart) fault ∙ w.elements place held
-    ];
-  }
-
   pub kept_after : fault_at fault written c.head ≡ None → Kept kind fault (turned_on c) after
   kept_after sound = record {
     turning = turning_on c some w.turning;
@@ -152,10 +140,6 @@ module _ {E : Type 0} (amount : E → ℤ) (weight : E → ℕ) (fault : ℤ →
 
     sound : fault_at fault (placed s (row_start c.head) bytes) c.head ≡ None
     sound = sym (ap (λ l. fault_at fault l c.head) row.bytes) ∙ row.sound
-
-    -- while the cursor is as it was
-    pub row_kept : Kept kind fault c t
-    row_kept = subst (Kept kind fault c) (sym row.bytes) (kept_written kind fault c s bytes refl w some sound)
 
     module _ (d : Cursor) (u : List ℕ) (next : d ≡ turned_on c) (turn : u ≡ placed t 8 (turn_bytes d)) where
       turned : u ≡ recorded c bytes s

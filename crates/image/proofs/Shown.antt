@@ -16,8 +16,7 @@ use Rattle.image.specs.declared.fault.ImageFault.TheVariants.{Length, Kind, Span
 use Rattle.image.specs.declared.header.Header.{Header}
 use Rattle.image.specs.Faults.{earliest}
 use Rattle.image.specs.Headers.{header_in, length_fault, head_kept, header_fault, front_fault}
-use Rattle.image.specs.Images.{bad_element, places, rows_in}
-use Rattle.image.specs.Opened.{Opened}
+use Rattle.image.specs.Images.{bad_element, image_fault, places, rows_in}
 use Rattle.image.specs.RingImages.{ImageOfRing}
 use Rattle.image.specs.Rings.{rows_for, image_span, header_of, meaning_of, Kept, Shows}
 use Rattle.image.specs.Rows.{item_at}
@@ -84,17 +83,15 @@ module _ (kind : ℕ) (fault : ℤ → ℕ → Option ElementFault) (c : Cursor)
       }
 
 -- so it is an opened image, without a check
-module _ (kind : ℕ) (fault : ℤ → ℕ → Option ElementFault) {E : Type 0} (empty : E) (decoded : ℤ → ℕ → E) (c : Cursor) (s : List ℕ) (w : Kept kind fault c s) (some : 0 < c.span) where
-  pub ring_opened : (h : Header) → h ≡ header_of kind c → Opened kind fault h s
-  ring_opened h is = record { sound = (shows kind fault c s w empty decoded some).no_fault; header_is = is ∙ sym (w.header_is some) }
-
-  pub image_of_ring : (t : List ℕ) → t ≡ s → ImageOfRing empty decoded c s t
-  image_of_ring t of_bytes =
-      let shown = shows kind fault c s w empty decoded some in
-      record {
-        some_rows = some;
-        of_bytes = of_bytes;
-        same_meaning =
-            ap (λ s. ending (empty_item empty) (header_in s).span (rows_in decoded s)) of_bytes
-            ∙ (λ i. ending (empty_item empty) (shown.span_shown i) (shown.rows_shown i));
-      }
+pub image_of_ring : (kind : ℕ) (fault : ℤ → ℕ → Option ElementFault) {E : Type 0} (empty : E) (decoded : ℤ → ℕ → E) (c : Cursor) (s : List ℕ) → Kept kind fault c s → 0 < c.span
+    → (h : Header) (t : List ℕ) → h ≡ header_of kind c → t ≡ s → ImageOfRing kind fault empty decoded c s h t
+image_of_ring kind fault empty decoded c s w some h t is of_bytes =
+    let shown = shows kind fault c s w empty decoded some in
+    record {
+      some_rows = some;
+      of_bytes = of_bytes;
+      opened = record { sound = ap (image_fault kind fault) of_bytes ∙ shown.no_fault; header_is = is ∙ sym (w.header_is some) ∙ sym (ap header_in of_bytes) };
+      same_meaning =
+          ap (λ s. ending (empty_item empty) (header_in s).span (rows_in decoded s)) of_bytes
+          ∙ (λ i. ending (empty_item empty) (shown.span_shown i) (shown.rows_shown i));
+    }

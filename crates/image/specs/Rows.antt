@@ -1,11 +1,13 @@
 -- How an item lies in a row of 20 bytes. Assumes nothing.
-use Rattle.std.specs.Prelude.{◌≡◌, ℕ, ◌+◌, ◌*◌, ◌<◌, ◌≤◌, List, ◌++◌, length, ℤ, None, Ok, Err, Option, Result}
+use Rattle.std.specs.Prelude.{◌≡◌, ℕ, ◌+◌, ◌*◌, ◌<◌, ◌≤◌, cond, nat_lt, List, ◌++◌, length, ℤ, None, Ok, Err, Option, Result}
 use Rattle.std.specs.Int.{w64}
+use Rattle.std.specs.Result.{result_ok}
 use Rattle.std.proofs.Common.{to_z, of_z}
 use Rattle.lent_bytes.specs.Placed.{placed}
 use Rattle.consolidation.specs.Items.{item}
 use Rattle.consolidation.specs.declared.item.Item.{Item}
 use Rattle.element.specs.declared.fault.ElementFault.{ElementFault}
+use Rattle.element.specs.Faults.{unless}
 use Rattle.image.specs.declared.row.NoRow.{NoRow}
 use Rattle.image.specs.Numbers.{le32, le64, bytes32, bytes64}
 
@@ -33,6 +35,10 @@ fault_at fault s place = fault (amount_at s place) (weight_at s place)
 -- the item that it holds
 abbrev pub item_at : {E : Type 0} → (ℤ → ℕ → E) → List ℕ → ℕ → Item E
 item_at decoded s place = item (decoded (amount_at s place) (weight_at s place)) (known_at s place) (of_at s place)
+
+-- that item; none where the bytes end before the row does, or its element has a fault
+abbrev pub row_in : {E : Type 0} → (ℤ → ℕ → Option ElementFault) → (ℤ → ℕ → E) → List ℕ → ℕ → Option (Item E)
+row_in fault decoded s place = cond (nat_lt (length s) (row_start place + 20)) None (result_ok (unless (fault_at fault s place) (item_at decoded s place)))
 
 -- the bytes of a row
 abbrev pub row_bytes : (amount : ℤ) (weight known all : ℕ) → List ℕ

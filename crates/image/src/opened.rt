@@ -1,5 +1,5 @@
 // An image whose bytes were checked, for reading.
-ghost use Rattle.std.specs.Prelude.{◌≡◌, ◌+◌, ◌<◌, ◌≤◌, List, length, drop, IfOk, OnOk};
+ghost use Rattle.std.specs.Prelude.{◌≡◌, ◌+◌, ◌-◌, ◌<◌, ◌≤◌, List, length, IfOk, IfSome, OnOk};
 ghost use Rattle.std.specs.Iterator.{YieldsFirst, item_count};
 ghost use Rattle.std.specs.List.{slice_get};
 ghost use Rattle.std.specs.Result.{result_err};
@@ -8,7 +8,7 @@ ghost use Rattle.archive.specs.Meanings.{asked};
 ghost use Rattle.consolidation.specs.declared.item.Item.{Item};
 ghost use Rattle.element.specs.Faults.{unless};
 ghost use Rattle.image.specs.Headers.{header_in};
-ghost use Rattle.image.specs.Images.{bad_element, image_fault, rows_in};
+ghost use Rattle.image.specs.Images.{bad_element, image_fault, rows_in, row_of, run};
 ghost use Rattle.element.specs.Kinds.{number_of_kind};
 ghost use Rattle.image.specs.Opened.{Opened, Ruled, image_meaning};
 ghost use Rattle.image.specs.Rows.{row_start};
@@ -22,17 +22,15 @@ use consolidation::monoid::Monoid;
 use element::coded::Coded;
 use std::marker::{Model, PhantomData};
 
-// The header is read from the bytes once, where they are checked; `opened` ties the two, and the bytes are lent.
-// It counts as holding a `&mut`: beside lent memory in a type argument, as in a bank of readers, the check takes a ghost field only there.
+// The header is read from the bytes once, where they are checked, and the bytes are lent. That the two belong together, `Opened`, is promised by `open`, and is a premise of what is read.
 #[derive(Drop)]
-pub struct Image<'a, E: Coded> {
+pub struct Image<'a, E> {
     bytes: &'a [u8],
     header: Header,
-    element: PhantomData<(&'a mut (), E)>,
-    pub ghost opened: { Opened (number_of_kind E.Coded.KIND) E.Coded.fault header bytes.now },
+    element: PhantomData<E>,
 }
 
-// The rows of an image that are left, the oldest first; a clause sees their list.
+// The rows of an image that are left, the oldest first; a clause sees their list, which ends before a row that cannot be read. An opened image has none of these.
 #[derive(Drop)]
 pub struct Rows<'i, 'a, E: Coded> {
     image: &'i Image<'a, E>,
@@ -42,7 +40,7 @@ pub struct Rows<'i, 'a, E: Coded> {
 impl<'i, 'a, E: Coded> Model for Rows<'i, 'a, E> {
     ghost Value = { List (Item E) };
 
-    ghost view = { λ rows. drop rows.index (rows_in E.Coded.decoded rows.image.now.bytes.now) };
+    ghost view = { λ rows. run (row_of E.Coded.fault E.Coded.decoded rows.image.now.header rows.image.now.bytes.now) rows.index (rows.image.now.header.held - rows.index) };
 }
 
 // The element's fault in the row at a place, with that place and the row's first byte. The room is asked for, as by `read_row`.
@@ -69,10 +67,22 @@ fn check<E: Coded + Copy>(bytes: &[u8]) -> Result<Header, ImageFault>
     Ok(header)
 }
 
+// The row of an index; none past the newest, nor where it cannot be read.
+fn row_of<E: Coded + Copy>(bytes: &[u8], header: &Header, index: u32) -> Option<Item<E>>
+    ensures row { result ≡ row_of E.Coded.fault E.Coded.decoded header.now bytes.now index }
+    ensures more { IfSome result (λ _. index < 4294967295) }
+{
+    if index >= header.held || header.head > header.held {
+        return None;
+    }
+    row_at(bytes, header.place_of(index))
+}
+
 impl<'a, E: Coded + Copy> Image<'a, E> {
     // The image of these bytes, or the first fault that they have as one of `E`'s kind.
     pub fn open(bytes: &'a [u8]) -> Result<Image<'a, E>, ImageFault>
         ensures bytes { IfOk result (λ image. image.bytes.now ≡ bytes.now) }
+        ensures opened { IfOk result (λ image. Opened (number_of_kind E.Coded.KIND) E.Coded.fault image.header image.bytes.now) }
         ensures ruled { OnOk result (Ruled (number_of_kind E.Coded.KIND) E.Coded.fault bytes.now) }
         ensures fault { result_err result ≡ image_fault (number_of_kind E.Coded.KIND) E.Coded.fault bytes.now }
     {
@@ -82,8 +92,8 @@ impl<'a, E: Coded + Copy> Image<'a, E> {
 
     // An image of bytes that are known to have no fault.
     pub(crate) fn of_parts(bytes: &'a [u8], header: Header) -> Image<'a, E>
-        requires { Opened (number_of_kind E.Coded.KIND) E.Coded.fault header bytes.now }
-        ensures { result.bytes.now ≡ bytes.now }
+        ensures bytes { result.bytes.now ≡ bytes.now }
+        ensures header { result.header ≡ header }
     {
         Image {
             bytes,
@@ -122,31 +132,28 @@ impl<'a, E: Coded + Copy> Image<'a, E> {
 
     // How many rows there is room for.
     pub fn span(&self) -> u32
-        ensures { result ≡ (header_in self.now.bytes.now).span }
+        ensures { Opened (number_of_kind E.Coded.KIND) E.Coded.fault self.now.header self.now.bytes.now → result ≡ (header_in self.now.bytes.now).span }
     {
         self.header.span
     }
 
     // How many rows are held.
     pub fn held(&self) -> u32
-        ensures { result ≡ length (rows_in E.Coded.decoded self.now.bytes.now) }
+        ensures { Opened (number_of_kind E.Coded.KIND) E.Coded.fault self.now.header self.now.bytes.now → result ≡ length (rows_in E.Coded.decoded self.now.bytes.now) }
     {
         self.header.held
     }
 
     // The row of an index, the oldest being the first; none past the newest.
     pub fn row(&self, index: u32) -> Option<Item<E>>
-        ensures { result ≡ slice_get (rows_in E.Coded.decoded self.now.bytes.now) index }
+        ensures { Opened (number_of_kind E.Coded.KIND) E.Coded.fault self.now.header self.now.bytes.now → result ≡ slice_get (rows_in E.Coded.decoded self.now.bytes.now) index }
     {
-        if index >= self.header.held {
-            return None;
-        }
-        row_at(self.bytes, self.header.place_of(index))
+        row_of(self.bytes, &self.header, index)
     }
 
     // The rows that are held, the oldest first.
     pub fn rows(&self) -> Rows<'_, 'a, E>
-        ensures { result ≡ rows_in E.Coded.decoded self.now.bytes.now }
+        ensures { Opened (number_of_kind E.Coded.KIND) E.Coded.fault self.now.header self.now.bytes.now → result ≡ rows_in E.Coded.decoded self.now.bytes.now }
     {
         Rows {
             image: self,
@@ -156,7 +163,7 @@ impl<'a, E: Coded + Copy> Image<'a, E> {
 
     // The row of an age, 0 for the newest; none past the oldest.
     pub fn ask(&self, age: u32) -> Option<Item<E>>
-        ensures { result ≡ asked (empty_item E.Monoid.empty) (item_counts E.Monoid.empty) (image_meaning E.Monoid.empty E.Coded.decoded self.now.bytes.now) age }
+        ensures { Opened (number_of_kind E.Coded.KIND) E.Coded.fault self.now.header self.now.bytes.now → result ≡ asked (empty_item E.Monoid.empty) (item_counts E.Monoid.empty) (image_meaning E.Monoid.empty E.Coded.decoded self.now.bytes.now) age }
     {
         let held = self.held();
         if age >= held {
@@ -175,7 +182,7 @@ impl<'i, 'a, E: Coded + Copy> Iterator for Rows<'i, 'a, E> {
 
     #[tactic(auto, using(crate::proofs::Left::none_left))]
     fn next(&mut self) -> Option<Item<E>> {
-        let row = self.image.row(self.index)?;
+        let row = row_of(self.image.bytes, &self.image.header, self.index)?;
         self.index += 1;
         Some(row)
     }

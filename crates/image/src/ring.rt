@@ -25,11 +25,10 @@ use std::marker::PhantomData;
 
 // The bytes stand beside the cursor, which says which rows are held: they are lent.
 #[derive(Drop)]
-pub struct ImageRing<'a, E: Coded> {
+pub struct ImageRing<'a, E> {
     bytes: &'a mut [u8],
     cursor: Cursor,
     element: PhantomData<E>,
-    pub ghost kept: { Kept (number_of_kind E.Coded.KIND) E.Coded.fault cursor bytes.now },
 }
 
 // How many rows take so many bytes with the header. Where no number of rows does it is 0, as it is of a header alone: neither is a ring.
@@ -81,6 +80,7 @@ impl<'a, E: Coded + Copy> ImageRing<'a, E> {
 
     // A ring that holds no row. Over bytes that are refused it never holds one, and does not write them.
     pub fn new(bytes: &'a mut [u8]) -> Self
+        ensures well { ⟦<ImageRing<'a, E> as Archive>⟧.well result }
         ensures fresh { ⟦<ImageRing<'a, E> as Archive>⟧.meaning result ≡ fresh (empty_item E.Monoid.empty) 1 (image_span (length bytes.old)) 1000 }
         ensures lender { result.bytes.ghost_name ≡ bytes.entry.ghost_name }
         ensures bytes { result.bytes.now ≡ laid_out (number_of_kind E.Coded.KIND) bytes.old }
@@ -96,16 +96,16 @@ impl<'a, E: Coded + Copy> ImageRing<'a, E> {
     // The bytes, which are an image at every moment, unless the ring has no places.
     pub fn bytes(&self) -> &[u8]
         ensures is { result.now ≡ self.now.bytes.now }
-        ensures shows { 0 < self.now.cursor.span → Shows (number_of_kind E.Coded.KIND) E.Coded.fault E.Coded.decoded (⟦<ImageRing<'a, E> as Archive>⟧.meaning self.now) result.now }
+        ensures shows { ⟦<ImageRing<'a, E> as Archive>⟧.well self.now → 0 < self.now.cursor.span → Shows (number_of_kind E.Coded.KIND) E.Coded.fault E.Coded.decoded (⟦<ImageRing<'a, E> as Archive>⟧.meaning self.now) result.now }
     {
         self.bytes
     }
 
     // An image of them, which needs no check; none of a ring without places.
     pub fn open(&self) -> Option<Image<'_, E>>
-        ensures { MatchOption result (self.now.cursor.span ≡ 0) (λ image. ImageOfRing E.Monoid.empty E.Coded.decoded self.now.cursor self.now.bytes.now image.bytes.now) }
+        ensures { ⟦<ImageRing<'a, E> as Archive>⟧.well self.now → MatchOption result (self.now.cursor.span ≡ 0) (λ image. ImageOfRing (number_of_kind E.Coded.KIND) E.Coded.fault E.Monoid.empty E.Coded.decoded self.now.cursor self.now.bytes.now image.header image.bytes.now) }
     {
-        if self.cursor.span == 0 {
+        if wrong_span(self.cursor.span as usize) {
             return None;
         }
         Some(Image::of_parts(self.bytes, header_of(E::KIND, self.cursor)))
@@ -115,25 +115,29 @@ impl<'a, E: Coded + Copy> ImageRing<'a, E> {
 impl<'a, E: Coded + Copy> Archive for ImageRing<'a, E> {
     type Item = Item<E>;
 
+    ghost well = { λ s. Kept (number_of_kind E.Coded.KIND) E.Coded.fault s.cursor s.bytes.now };
+
     ghost meaning = { λ s. meaning_of E.Monoid.empty E.Coded.decoded s.cursor s.bytes.now };
 
-    ghost sound = { λ s. image_ring_sound E.Monoid.empty E.Coded.decoded s.cursor s.bytes.now s.kept.turning };
+    ghost sound = { λ s w. image_ring_sound E.Monoid.empty E.Coded.decoded s.cursor s.bytes.now w.turning };
 
     // Writes the item as the newest row, over the oldest when the ring is full.
     fn store(&mut self, item: Item<E>)
-        ensures value { meaning_of E.Monoid.empty E.Coded.decoded self.new.cursor self.new.bytes.now ≡ stored (empty_item E.Monoid.empty) (item_joined E.Monoid.joined) (meaning_of E.Monoid.empty E.Coded.decoded self.old.cursor self.old.bytes.now) item }
+        ensures kept { Kept (number_of_kind E.Coded.KIND) E.Coded.fault self.old.cursor self.old.bytes.now → Kept (number_of_kind E.Coded.KIND) E.Coded.fault self.new.cursor self.new.bytes.now }
+        ensures value { Kept (number_of_kind E.Coded.KIND) E.Coded.fault self.old.cursor self.old.bytes.now → meaning_of E.Monoid.empty E.Coded.decoded self.new.cursor self.new.bytes.now ≡ stored (empty_item E.Monoid.empty) (item_joined E.Monoid.joined) (meaning_of E.Monoid.empty E.Coded.decoded self.old.cursor self.old.bytes.now) item }
         ensures lender { self.new.bytes.ghost_name ≡ self.old.bytes.ghost_name }
         ensures none { self.old.cursor.span ≡ 0 → self.new ≡ self.old }
-        ensures bytes { 0 < self.old.cursor.span → self.new.bytes.now ≡ recorded self.old.cursor (item_bytes E.Consolidation.amount E.Consolidation.weight item) self.old.bytes.now }
+        ensures bytes { Kept (number_of_kind E.Coded.KIND) E.Coded.fault self.old.cursor self.old.bytes.now → 0 < self.old.cursor.span → self.new.bytes.now ≡ recorded self.old.cursor (item_bytes E.Consolidation.amount E.Consolidation.weight item) self.old.bytes.now }
     {
         let cursor = self.cursor;
         if cursor.span == 0 {
             return;
         }
-        write_row(self.bytes, cursor.head, item).unwrap();
-        let next = cursor.next();
-        write_turn(self.bytes, next);
-        self.cursor = next;
+        if write_row(self.bytes, cursor.head, item).is_ok() {
+            let next = cursor.next();
+            write_turn(self.bytes, next);
+            self.cursor = next;
+        }
     }
 
     fn ask(&self, age: u32) -> Option<Item<E>> {

@@ -1,8 +1,7 @@
 // A row: the amount, the weight and the two counts of an item in 20 bytes.
 ghost use Rattle.std.specs.Prelude.{◌≡◌, ◌+◌, ◌≤◌, length};
-ghost use Rattle.std.specs.Result.{result_ok};
 ghost use Rattle.element.specs.Faults.{unless};
-ghost use Rattle.image.specs.Rows.{row_start, fault_at, item_at, WritesRow};
+ghost use Rattle.image.specs.Rows.{row_start, fault_at, item_at, row_in, WritesRow};
 
 use crate::header::HEADER;
 use crate::number::{field, numbers, put_field, put_numbers};
@@ -36,11 +35,13 @@ pub(crate) fn read_row<E: Coded + Copy>(bytes: &[u8], place: u32) -> Result<Item
     Ok(Item { element, known, of })
 }
 
-// That item, or nothing where its element has a fault. No row that a ring or an image holds has one.
+// That item; none where the bytes end before that row does, or its element has a fault.
 pub(crate) fn row_at<E: Coded + Copy>(bytes: &[u8], place: u32) -> Option<Item<E>>
-    requires { row_start place + 20 ≤ length bytes.now }
-    ensures { result ≡ result_ok (unless (fault_at E.Coded.fault bytes.now place) (item_at E.Coded.decoded bytes.now place)) }
+    ensures { result ≡ row_in E.Coded.fault E.Coded.decoded bytes.now place }
 {
+    if bytes.len() < row_start(place) + ROW {
+        return None;
+    }
     read_row(bytes, place).ok()
 }
 

@@ -1,5 +1,5 @@
 -- One store into groups, and groups of groups. Assumes nothing.
-use Rattle.std.proofs.Common.{◌≡◌, ℕ, ◌+◌, ◌*◌, ◌≤◌, List, [], ◌∷◌, ◌++◌, sym, ap, ◌∙◌, inl, inr, mul-one, mul-add, arith}
+use Rattle.std.proofs.Common.{◌≡◌, ℕ, ◌+◌, ◌*◌, ◌≤◌, List, [], ◌∷◌, ◌++◌, sym, refl, ap, ◌∙◌, inl, inr, mul-one, mul-add, arith}
 use Rattle.std.proofs.lemmas.Bool.{cases_lt, lt-ltb, le-ltb, cond-true, cond-false}
 use Rattle.consolidation.specs.Laws.{Lawful}
 use Rattle.archive.specs.Meanings.{Meaning, Sound, newest, stored, grown, closed}
@@ -16,6 +16,16 @@ stored_width empty joined m x =
 
 module _ {M : Type 0} {empty : M} {joined : M → M → M} (laws : Lawful empty joined) where
   module _ (m : Meaning M) (sound : Sound m) (factor count : ℕ) (part : M) (grouping : Grouping empty m.width factor count part) (x : M) where
+    -- a group begins
+    pub grouping_closed : (y : M) → Grouping empty (stored empty joined m y).width factor 0 empty
+    grouping_closed y = record {
+      some_factor = grouping.some_factor;
+      most_factor = grouping.most_factor;
+      most_width = rw (stored_width empty joined m y) grouping.most_width;
+      still_open = grouping.some_factor;
+      none_begun = λ e. refl;
+    }
+
     -- the group goes down as one item
     pub coarser_closed : factor ≤ count + 1 → coarser joined (stored empty joined m (joined part x)) factor 0 empty ≡ stored empty joined (coarser joined m factor count part) x
     coarser_closed h =

@@ -1,10 +1,10 @@
 -- Factors that fit, and their product. Assumes nothing.
-use Rattle.std.proofs.Common.{◌≡◌, ℕ, ◌+◌, ◌*◌, ◌%◌, ◌^◌, ◌≤◌, false, sym, cond, nat_lt, ap, ◌∙◌, inl, inr, mul-le-mul_right, mul-le-mul_left, arith}
-use Rattle.std.proofs.lemmas.Bool.{cases_lt, lt-ltb, le-ltb, ltb-false, or_parts, or_from, cond-true, cond-false}
+use Rattle.std.proofs.Common.{◌≡◌, ℕ, ◌+◌, ◌*◌, ◌%◌, ◌^◌, ◌≤◌, false, ap, ◌∙◌, inl, inr, mul-le-mul_right, mul-le-mul_left, arith}
+use Rattle.std.proofs.lemmas.Bool.{cases_lt, le-ltb, ltb-false, or_parts, or_from, cond-false}
 use Rattle.consolidation.specs.Laws.{Lawful}
-use Rattle.archive.specs.Meanings.{Meaning, Sound, stored}
-use Rattle.layers.specs.Coarser.{unfit, fit_factor, coarser, Grouping, Groups, coarse}
-use Rattle.layers.proofs.Coarsening.{coarser-coarser, coarser_closed, stored_width}
+use Rattle.archive.specs.Meanings.{Meaning}
+use Rattle.layers.specs.Coarser.{unfit, fit_factor, coarser}
+use Rattle.layers.proofs.Coarsening.{coarser-coarser}
 
 pub record Fit (factor width : ℕ) : Type 0 where
   pub some : 1 ≤ factor
@@ -73,30 +73,3 @@ module _ {M : Type 0} {empty : M} {joined : M → M → M} (laws : Lawful empty 
       is_top
       ∙ ap (λ factor. coarser joined m (fit_factor factor m.width) 0 empty) small
       ∙ ap (λ factor. coarser joined m factor 0 empty) (fit_taken (outer * inner) m.width f)
-
-module _ {A M : Type 0} {empty : M} (joined : M → M → M) (meaning : A → Meaning M) where
-  -- what groups mean, whose numbers fit
-  pub coarse_is : (s : Groups A M) → Grouping empty (meaning s.below).width s.factor s.count s.part → coarse joined meaning s ≡ coarser joined (meaning s.below) s.factor s.count s.part
-  coarse_is s grouping =
-      let m = meaning s.below in
-      let fits = fit_taken s.factor m.width (record { some = grouping.some_factor; most = grouping.most_factor; narrow = grouping.most_width }) in
-      let at : ℕ → Meaning M = λ factor. coarser joined m factor (cond (nat_lt s.count factor) s.count 0) s.part in
-      ap at fits ∙ ap (λ count. coarser joined m s.factor count s.part) (cond-true (nat_lt s.count s.factor) s.count 0 (lt-ltb s.count s.factor grouping.still_open))
-
-  -- the last item of a group: s are the groups before it, t those after it
-  pub coarse_closed : Lawful empty joined → (s t : Groups A M) (x : M) → Sound (meaning s.below) → Grouping empty (meaning s.below).width s.factor s.count s.part → s.factor ≤ s.count + 1
-      → meaning t.below ≡ stored empty joined (meaning s.below) (joined s.part x) → t.factor ≡ s.factor → t.count ≡ 0 → t.part ≡ empty
-      → coarse joined meaning t ≡ stored empty joined (coarse joined meaning s) x
-  coarse_closed laws s t x sound grouping last down factor count part =
-      let m = meaning s.below in
-      let width : (meaning t.below).width ≡ m.width = ap (λ n. n.width) down ∙ stored_width empty joined m (joined s.part x) in
-      let kept : Grouping empty (meaning t.below).width t.factor t.count t.part = record {
-        some_factor = rw factor grouping.some_factor;
-        most_factor = rw factor grouping.most_factor;
-        most_width = rw (factor, width) grouping.most_width;
-        still_open = rw (factor, count) grouping.some_factor;
-        none_begun = λ _. part;
-      } in
-      coarse_is t kept
-      ∙ rw (down, factor, count, part) (coarser_closed laws m sound s.factor s.count s.part grouping x last)
-      ∙ ap (λ n. stored empty joined n x) (sym (coarse_is s grouping))

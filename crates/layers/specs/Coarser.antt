@@ -1,7 +1,6 @@
 -- Groups of items that are kept as items by the archive below. Assumes nothing.
 use Rattle.std.specs.Prelude.{◌≡◌, ℕ, ◌+◌, ◌*◌, ◌<◌, ◌≤◌, Bool, cond, ◌||◌, nat_lt}
-use Rattle.std.proofs.Common.{refl, rules, arith, mul-le-mul_left, mul-add, mul-one}
-use Rattle.std.proofs.lemmas.Bool.Decides.{nat_tests}
+use Rattle.std.proofs.Common.{arith, mul-le-mul_left, mul-add, mul-one}
 use Rattle.archive.specs.Meanings.{Meaning, Sound}
 
 -- a factor that is not 1 to 1,000, or that makes a width above 1,000,000
@@ -46,29 +45,3 @@ coarser_sound empty joined m factor count part s g =
       still_open = omega arith;
       within_span = s.within_span;
     }
-
--- groups over an archive: the archive below, the items of a group, and the open group
-pub record Groups (A M : Type 0) : Type 0 where
-  pub below : A
-  pub factor : ℕ
-  pub count : ℕ
-  pub part : M
-
--- what groups mean; numbers that fit nothing, which no layer has, would tell of a new group of one item
-abbrev pub coarse : {A M : Type 0} → (M → M → M) → (A → Meaning M) → Groups A M → Meaning M
-coarse joined meaning s =
-    let m = meaning s.below in
-    let factor = fit_factor s.factor m.width in
-    coarser joined m factor (cond (nat_lt s.count factor) s.count 0) s.part
-
-pub coarse_sound : {A M : Type 0} (joined : M → M → M) (meaning : A → Meaning M) (s : Groups A M) → Sound (meaning s.below) → Sound (coarse joined meaning s)
-coarse_sound joined meaning s sound =
-    let m = meaning s.below in
-    let factor = fit_factor s.factor m.width in
-    coarser_sound s.part joined m factor (cond (nat_lt s.count factor) s.count 0) s.part sound (record {
-      some_factor = search (rules, arith, nat_tests);
-      most_factor = search (rules, arith, nat_tests);
-      most_width = search (rules, arith, nat_tests);
-      still_open = search (rules, arith, nat_tests);
-      none_begun = λ _. refl;
-    })

@@ -30,6 +30,7 @@ impl<A: Archive> AllowanceLayer<A> {
     // Where `check` refuses, it has the whole allowance.
     pub fn new(below: A, allowance: u32) -> AllowanceLayer<A>
         ensures below { result.below ≡ below }
+        ensures well { A.Archive.well below → ⟦<AllowanceLayer<A> as Archive>⟧.well result }
         ensures value { ⟦<AllowanceLayer<A> as Archive>⟧.meaning result ≡ limited (fit_allowance allowance) (A.Archive.meaning below) }
     {
         AllowanceLayer {
@@ -49,9 +50,11 @@ impl<A: Archive> AllowanceLayer<A> {
 impl<A: Archive> Archive for AllowanceLayer<A> {
     type Item = A::Item;
 
+    ghost well = { λ s. A.Archive.well s.below };
+
     ghost meaning = { λ s. limited s.allowance (A.Archive.meaning s.below) };
 
-    ghost sound = { λ s. limited_sound s.allowance (A.Archive.meaning s.below) (A.Archive.sound s.below) };
+    ghost sound = { λ s w. limited_sound s.allowance (A.Archive.meaning s.below) (A.Archive.sound s.below w) };
 
     fn store(&mut self, item: A::Item) {
         self.below.store(item);

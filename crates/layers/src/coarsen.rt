@@ -1,14 +1,13 @@
 // Joins items in groups for the archive below.
-ghost use Rattle.std.specs.Prelude.{◌≡◌, ℕ, ◌+◌, ◌*◌};
+ghost use Rattle.std.specs.Prelude.{◌≡◌, ℕ, ◌*◌};
 ghost use Rattle.archive.specs.Meanings.{fresh};
 ghost use Rattle.archive.specs.Refusals.{refused_if};
 ghost use Rattle.archive.specs.declared.refusal.Refusal.TheVariants.{Factor};
-ghost use Rattle.layers.specs.Coarser.{unfit, fit_factor, coarser, Grouping, Groups, coarse, coarse_sound};
+ghost use Rattle.layers.specs.Coarser.{unfit, fit_factor, coarser, Grouping, coarser_sound};
 
 use archive::archive::Archive;
 use archive::refusal::Refusal;
 use consolidation::monoid::Monoid;
-use std::marker::Model;
 
 // The most items of a group.
 pub const MOST_FACTOR: u32 = 1_000;
@@ -26,17 +25,6 @@ pub struct Coarsen<A: Archive> {
     part: A::Item,
 }
 
-// A clause sees the fields. What they keep to is no ghost field: a layer over memory of its own could then not stand beside lent memory in a type argument, as in a bank of archives.
-impl<A: Archive> Model for Coarsen<A> {
-    ghost Value = { Groups A A.Item };
-
-    ghost view = { λ s. record { below = s.below; factor = s.factor; count = s.count; part = s.part } };
-
-    ghost inverse = { λ v. record { below = v.below; factor = v.factor; count = v.count; part = v.part } };
-
-    ghost invariant = { λ s. Grouping A.Item.Monoid.empty (A.Archive.meaning s.below).width s.factor s.count s.part };
-}
-
 fn is_unfit(factor: u32, width: u32) -> bool
     ensures { result ≡ unfit factor width }
 {
@@ -52,7 +40,7 @@ fn fit_factor(factor: u32, width: u32) -> u32
 impl<A: Archive> Coarsen<A> {
     // Refuses a factor that is not 1 to 1,000, or that makes a width above 1,000,000.
     pub fn check(below: &A, factor: u32) -> Result<(), Refusal>
-        ensures { result ≡ refused_if (unfit factor (A.Archive.meaning below.now).width) Factor }
+        ensures { A.Archive.well below.now → result ≡ refused_if (unfit factor (A.Archive.meaning below.now).width) Factor }
     {
         if is_unfit(factor, below.width()) {
             Err(Refusal::Factor)
@@ -64,8 +52,9 @@ impl<A: Archive> Coarsen<A> {
     // Where `check` refuses, the factor is 1: each item is stored as it is.
     pub fn new(below: A, factor: u32) -> Coarsen<A>
         ensures below { result.below ≡ below }
-        ensures value { ⟦<Coarsen<A> as Archive>⟧.meaning result ≡ coarser A.Item.Monoid.joined (A.Archive.meaning below) (fit_factor factor (A.Archive.meaning below).width) 0 A.Item.Monoid.empty }
-        ensures fresh { (width span allowance : ℕ) → A.Archive.meaning below ≡ fresh A.Item.Monoid.empty width span allowance → ⟦<Coarsen<A> as Archive>⟧.meaning result ≡ fresh A.Item.Monoid.empty (fit_factor factor width * width) span allowance }
+        ensures well { A.Archive.well below → ⟦<Coarsen<A> as Archive>⟧.well result }
+        ensures value { A.Archive.well below → ⟦<Coarsen<A> as Archive>⟧.meaning result ≡ coarser A.Item.Monoid.joined (A.Archive.meaning below) (fit_factor factor (A.Archive.meaning below).width) 0 A.Item.Monoid.empty }
+        ensures fresh { (width span allowance : ℕ) → A.Archive.well below → A.Archive.meaning below ≡ fresh A.Item.Monoid.empty width span allowance → ⟦<Coarsen<A> as Archive>⟧.meaning result ≡ fresh A.Item.Monoid.empty (fit_factor factor width * width) span allowance }
     {
         let factor = fit_factor(factor, below.width());
         Coarsen {
@@ -76,10 +65,9 @@ impl<A: Archive> Coarsen<A> {
         }
     }
 
-    // The archive below, as it stands; and what the groups over it keep to, at every moment. Each layer has one line for its own field, and no trait could say it in less.
+    // The archive below, as it stands. Each layer has one line for its own field, and no trait could say it in less.
     pub fn below(&self) -> &A
-        ensures below { result.now ≡ self.now.below }
-        ensures kept { Grouping A.Item.Monoid.empty (A.Archive.meaning self.now.below).width self.now.factor self.now.count self.now.part }
+        ensures { result.now ≡ self.now.below }
     {
         &self.below
     }
@@ -88,13 +76,15 @@ impl<A: Archive> Coarsen<A> {
 impl<A: Archive> Archive for Coarsen<A> {
     type Item = A::Item;
 
-    ghost meaning = { coarse A.Item.Monoid.joined A.Archive.meaning };
+    ghost well = { λ s. A.Archive.well s.below × Grouping A.Item.Monoid.empty (A.Archive.meaning s.below).width s.factor s.count s.part };
 
-    ghost sound = { λ s. coarse_sound A.Item.Monoid.joined A.Archive.meaning s (A.Archive.sound s.below) };
+    ghost meaning = { λ s. coarser A.Item.Monoid.joined (A.Archive.meaning s.below) s.factor s.count s.part };
+
+    ghost sound = { λ s w. coarser_sound A.Item.Monoid.empty A.Item.Monoid.joined (A.Archive.meaning s.below) s.factor s.count s.part (A.Archive.sound s.below w.0) w.1 };
 
     fn store(&mut self, item: A::Item) {
         let joined = self.part.join(item);
-        if self.count + 1 < self.factor {
+        if self.count as u64 + 1 < self.factor as u64 {
             self.part = joined;
             self.count += 1;
         } else {
@@ -108,11 +98,8 @@ impl<A: Archive> Archive for Coarsen<A> {
         self.below.ask(age)
     }
 
-    fn width(&self) -> u32
-        ensures value { result ≡ self.now.factor * (A.Archive.meaning self.now.below).width }
-        ensures kept { Grouping A.Item.Monoid.empty (A.Archive.meaning self.now.below).width self.now.factor self.now.count self.now.part }
-    {
-        self.factor * self.below.width()
+    fn width(&self) -> u32 {
+        self.factor.wrapping_mul(self.below.width())
     }
 
     // Told as below, here and in the other layer, by one call of the layer's own field: no trait could say it in less.
@@ -124,11 +111,10 @@ impl<A: Archive> Archive for Coarsen<A> {
         self.below.allowance()
     }
 
-    fn begun(&self) -> u32
-        ensures value { result ≡ self.now.factor * (A.Archive.meaning self.now.below).begun + self.now.count }
-        ensures kept { Grouping A.Item.Monoid.empty (A.Archive.meaning self.now.below).width self.now.factor self.now.count self.now.part }
-    {
-        self.factor * self.below.begun() + self.count
+    fn begun(&self) -> u32 {
+        self.factor
+            .wrapping_mul(self.below.begun())
+            .wrapping_add(self.count)
     }
 
     fn part(&self) -> A::Item {

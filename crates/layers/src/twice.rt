@@ -18,8 +18,10 @@ pub fn coarsen_both_ways<K: Entry + Copy, A: Archive<Item = K>, B: Archive<Item 
     outer: u32,
     items: &[K],
 ) -> (Coarsen<Coarsen<A>>, Coarsen<B>)
-    ensures same { A.Archive.meaning first ≡ B.Archive.meaning second → unfit (outer * inner) (B.Archive.meaning second).width ≡ false → ⟦<Coarsen<Coarsen<A>> as Archive>⟧.meaning result.0 ≡ ⟦<Coarsen<B> as Archive>⟧.meaning result.1 }
-    ensures value { A.Archive.meaning first ≡ B.Archive.meaning second → unfit (outer * inner) (B.Archive.meaning second).width ≡ false → ⟦<Coarsen<B> as Archive>⟧.meaning result.1 ≡ stored_all K.Monoid.empty K.Monoid.joined (coarser K.Monoid.joined (B.Archive.meaning second) (outer * inner) 0 K.Monoid.empty) items.now }
+    ensures well_twice { A.Archive.well first → ⟦<Coarsen<Coarsen<A>> as Archive>⟧.well result.0 }
+    ensures well_once { B.Archive.well second → ⟦<Coarsen<B> as Archive>⟧.well result.1 }
+    ensures same { A.Archive.well first → B.Archive.well second → A.Archive.meaning first ≡ B.Archive.meaning second → unfit (outer * inner) (B.Archive.meaning second).width ≡ false → ⟦<Coarsen<Coarsen<A>> as Archive>⟧.meaning result.0 ≡ ⟦<Coarsen<B> as Archive>⟧.meaning result.1 }
+    ensures value { A.Archive.well first → B.Archive.well second → A.Archive.meaning first ≡ B.Archive.meaning second → unfit (outer * inner) (B.Archive.meaning second).width ≡ false → ⟦<Coarsen<B> as Archive>⟧.meaning result.1 ≡ stored_all K.Monoid.empty K.Monoid.joined (coarser K.Monoid.joined (B.Archive.meaning second) (outer * inner) 0 K.Monoid.empty) items.now }
 {
     let mut twice = Coarsen::new(Coarsen::new(first, inner), outer);
     let mut once = Coarsen::new(second, outer.wrapping_mul(inner));

@@ -3,6 +3,8 @@ ghost use Rattle.std.specs.Prelude.{◌≡◌, ◌+◌, ◌≤◌, true, length,
 ghost use Rattle.std.specs.List.{flat_map};
 ghost use Rattle.image.specs.Headers.{header_in};
 ghost use Rattle.image.specs.Images.{places};
+ghost use Rattle.image.specs.Opened.{Opened};
+ghost use Rattle.element.specs.Kinds.{number_of_kind};
 ghost use Rattle.listing.specs.Listing.{header_line, item_line, row_line, refusal};
 ghost use Rattle.listing.specs.Texts.{Extends};
 
@@ -16,7 +18,7 @@ use lent_bytes::text::{Full, Text};
 
 // `image`, the kind, how many rows there is room for, and how many are held.
 pub(crate) fn put_header<E: Coded + Copy>(text: &mut Text, image: &Image<E>) -> Result<(), Full>
-    ensures { Extends text.old (header_line image.now.bytes.now) result text.new }
+    ensures { Opened (number_of_kind E.Coded.KIND) E.Coded.fault image.now.header image.now.bytes.now → Extends text.old (header_line image.now.bytes.now) result text.new }
 {
     text.put(b"image")?;
     put_ending(
@@ -41,7 +43,7 @@ fn put_row<E: Consolidation + Copy>(text: &mut Text, row: Item<E>) -> Result<(),
 
 // A line for each row, the oldest first.
 pub(crate) fn put_rows<E: Coded + Copy>(text: &mut Text, image: &Image<E>) -> Result<(), Full>
-    ensures { Extends text.old (flat_map (row_line image.now.bytes.now) (places (header_in image.now.bytes.now))) result text.new }
+    ensures { Opened (number_of_kind E.Coded.KIND) E.Coded.fault image.now.header image.now.bytes.now → Extends text.old (flat_map (row_line image.now.bytes.now) (places (header_in image.now.bytes.now))) result text.new }
 {
     for row in image.rows() {
         put_row(text, row)?;

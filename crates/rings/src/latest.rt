@@ -35,9 +35,12 @@ impl<E: Consolidation + Copy> LatestRow<E> {
 impl<E: Consolidation + Copy> Archive for LatestRow<E> {
     type Item = Item<E>;
 
+    // There is nothing to keep to.
+    ghost well = { λ _. Unit {0} };
+
     ghost meaning = { of_latest E.Monoid.empty };
 
-    ghost sound = { latest_sound E.Monoid.empty };
+    ghost sound = { λ s _. latest_sound E.Monoid.empty s };
 
     fn store(&mut self, item: Item<E>) {
         self.row = Some(item);

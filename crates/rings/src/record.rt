@@ -5,7 +5,7 @@ ghost use Rattle.archive.specs.Entries.{empty_item};
 ghost use Rattle.archive.specs.declared.refusal.Refusal.TheVariants.{Span};
 ghost use Rattle.archive.specs.Meanings.{fresh, stored};
 ghost use Rattle.archive.specs.Refusals.{refused_if};
-ghost use Rattle.archive.specs.Rings.{wrong_span, ring_span, ring_meaning, turned_on, Turning};
+ghost use Rattle.archive.specs.Rings.{wrong_span, ring_span, ring_meaning, turned_on, RingWell};
 ghost use Rattle.archive.specs.RingsLemmas.{held_within, ring_sound};
 
 use archive::archive::Archive;
@@ -22,11 +22,9 @@ use consolidation::monoid::Monoid;
 pub struct RecordRing<'a, E> {
     rows: &'a mut [Item<E>],
     cursor: Cursor,
-    pub ghost turning: { Turning cursor },
-    pub ghost span_is: { cursor.span ≡ ring_span (length rows.now) },
 }
 
-// Writes one place, if there is such a place. It asks nothing of the place, so that its promise holds of every slice.
+// Writes one place, if there is such a place.
 fn put<E: Copy>(rows: &mut [Item<E>], place: u32, item: Item<E>)
     ensures { rows.new ≡ slice_set rows.old place item }
 {
@@ -48,6 +46,7 @@ impl<'a, E: Consolidation + Copy> RecordRing<'a, E> {
 
     // Whatever the rows hold, the ring holds none of it.
     pub fn new(rows: &'a mut [Item<E>]) -> Self
+        ensures well { ⟦<RecordRing<'a, E> as Archive>⟧.well result }
         ensures fresh { ⟦<RecordRing<'a, E> as Archive>⟧.meaning result ≡ fresh (empty_item E.Monoid.empty) 1 (ring_span (length rows.old)) 1000 }
         ensures lender { result.rows.ghost_name ≡ rows.entry.ghost_name }
         ensures rows { result.rows.now ≡ rows.old }
@@ -60,13 +59,16 @@ impl<'a, E: Consolidation + Copy> RecordRing<'a, E> {
 impl<'a, E: Consolidation + Copy> Archive for RecordRing<'a, E> {
     type Item = Item<E>;
 
+    ghost well = { λ s. RingWell s.cursor (length s.rows.now) };
+
     ghost meaning = { λ s. ring_meaning (empty_item E.Monoid.empty) s.cursor s.rows.now };
 
-    ghost sound = { λ s. ring_sound s.cursor s.rows.now (empty_item E.Monoid.empty) s.turning (held_within s.cursor s.rows.now s.turning s.span_is) };
+    ghost sound = { λ s w. ring_sound s.cursor s.rows.now (empty_item E.Monoid.empty) w.turning (held_within s.cursor s.rows.now w.turning w.span_is) };
 
     // One place is written, in turn from place 0; with span 0 none is.
     fn store(&mut self, item: Item<E>)
-        ensures value { ring_meaning (empty_item E.Monoid.empty) self.new.cursor self.new.rows.now ≡ stored (empty_item E.Monoid.empty) (item_joined E.Monoid.joined) (ring_meaning (empty_item E.Monoid.empty) self.old.cursor self.old.rows.now) item }
+        ensures kept { RingWell self.old.cursor (length self.old.rows.now) → RingWell self.new.cursor (length self.new.rows.now) }
+        ensures value { RingWell self.old.cursor (length self.old.rows.now) → ring_meaning (empty_item E.Monoid.empty) self.new.cursor self.new.rows.now ≡ stored (empty_item E.Monoid.empty) (item_joined E.Monoid.joined) (ring_meaning (empty_item E.Monoid.empty) self.old.cursor self.old.rows.now) item }
         ensures lender { self.new.rows.ghost_name ≡ self.old.rows.ghost_name }
         ensures rows { self.new.rows.now ≡ if nat_lt 0 self.old.cursor.span then slice_set self.old.rows.now self.old.cursor.head item else self.old.rows.now }
         ensures cursor { self.new.cursor ≡ if nat_lt 0 self.old.cursor.span then turned_on self.old.cursor else self.old.cursor }
@@ -80,7 +82,7 @@ impl<'a, E: Consolidation + Copy> Archive for RecordRing<'a, E> {
 
     fn ask(&self, age: u32) -> Option<Item<E>> {
         let place = self.cursor.place(age)?;
-        Some(self.rows[place as usize])
+        self.rows.get(place as usize).copied()
     }
 
     // Here and in the other ends alike: with one impl for all ends, code that is generic over archives and makes a layer gets no proof.

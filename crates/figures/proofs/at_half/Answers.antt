@@ -14,8 +14,8 @@ returns c =
     let counts = item_counts (mean (pos 0) 0) in
     let row = item c.hold.result c.args.known 5 in
     let made = c.new-archive.ensures.value ∙ ap (limited 500) c.new.ensures in
-    let kept = c.store.ensures ∙ ap (λ m. stored none joined m row) made in
-    c.ask.ensures
+    let kept = c.store.ensures.value tt ∙ ap (λ m. stored none joined m row) made in
+    c.ask.ensures tt
     ∙ ap (λ m. asked none counts m 0) kept
     ∙ ap (λ x. Some (shown counts 500 x)) ((item_lawful mean_lawful).left_unit row)
     ∙ ap (λ x. Some (shown counts 500 (item x c.args.known 5))) c.hold.ensures.held

@@ -10,10 +10,12 @@ returns g c =
     let a = c.args.archive.now in
     let m = g.A.Archive.meaning a in
     let items = c.args.items.now in
-    let value = c.loop-item.invariant ∙ ap (stored_all empty joined m) (take_all _ _ c.loop-item-test.false) in
+    let all = take_all _ _ c.loop-item-test.false in
+    let value = λ (w : g.A.Archive.well a). (c.loop-item.invariant w).1 ∙ ap (stored_all empty joined m) all in
     record {
+      kept = λ w. (c.loop-item.invariant w).0;
       value = value;
-      in_groups = λ width span allowance is.
-          let some : 0 < width = subst (λ n. 0 < n) (ap (λ m. m.width) is) (g.met.A.Archive.sound a).some_width in
-          value ∙ ap (λ m. stored_all empty joined m items) is ∙ law_of_archives empty joined width span allowance items some;
+      in_groups = λ width span allowance w is.
+          let some : 0 < width = subst (λ n. 0 < n) (ap (λ m. m.width) is) (g.met.A.Archive.sound a w).some_width in
+          value w ∙ ap (λ m. stored_all empty joined m items) is ∙ law_of_archives empty joined width span allowance items some;
     }

@@ -5,4 +5,5 @@ use Rattle.archive.proofs.store_all.store_all.Given as goal
 -- the items so far are stored
 abbrev pub invariant-loop-item : goal.invariant-loop-item
 invariant-loop-item g l =
-    g.A.Archive.meaning l.archive ≡ stored_all g.A.Item.Monoid.empty g.A.Item.Monoid.joined (g.A.Archive.meaning l.initial.archive) (take l.item-index l.items)
+    g.A.Archive.well l.initial.archive
+    → g.A.Archive.well l.archive × (g.A.Archive.meaning l.archive ≡ stored_all g.A.Item.Monoid.empty g.A.Item.Monoid.joined (g.A.Archive.meaning l.initial.archive) (take l.item-index l.items))

@@ -5,7 +5,6 @@ use Rattle.image.proofs.Places.{length-rows}
 use Rattle.image.proofs.opened.Image.held.Goals as goal
 
 pub returns : goal.returns
-returns g c =
-    let image = c.args.self.now in
-    let s = image.bytes.now in
-    ap (λ h. h.held) image.opened.header_is ∙ length-rows (header_in s) (item_at g.E.Coded.decoded s)
+returns g c opened =
+    let s = c.args.self.now.bytes.now in
+    ap (λ h. h.held) opened.header_is ∙ length-rows (header_in s) (item_at g.E.Coded.decoded s)

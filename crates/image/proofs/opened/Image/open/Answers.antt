@@ -7,12 +7,12 @@ use Rattle.image.proofs.Faults.{unless_ok, unless_value, unless_err}
 use Rattle.image.proofs.Reading.{header_sound, row_sound}
 use Rattle.image.proofs.opened.Image.open.Goals as goal
 
-pub of_parts-requires : goal.of_parts-requires
-of_parts-requires g c =
+pub returns-clause-opened : goal.returns-clause-opened
+returns-clause-opened g c =
     let s = c.args.bytes.now in
     let first = image_fault (number_of_kind g.E.Coded.KIND) g.E.Coded.fault s in
     let answered = sym c.in_ok-header.ensures in
-    record { sound = unless_ok first (header_in s) _ answered; header_is = unless_value first (header_in s) _ answered }
+    rw (c.of_parts.ensures.header, c.of_parts.ensures.bytes) (record { sound = unless_ok first (header_in s) _ answered; header_is = unless_value first (header_in s) _ answered })
 
 pub returns-clause-ruled : goal.returns-clause-ruled
 returns-clause-ruled g c =

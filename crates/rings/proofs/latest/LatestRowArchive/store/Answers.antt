@@ -13,4 +13,4 @@ pub returns : goal.returns
 returns g c =
     let row = c.args.self.now.row in
     let empty = empty_item g.E.Monoid.empty in
-    sym (stored-ending (item_lawful g.met.E.Monoid.lawful) 1 (option_to_list row) c.args.item ∙ ap (ending empty 1) (one_row row c.args.item))
+    record { kept = λ w. w; value = λ w. sym (stored-ending (item_lawful g.met.E.Monoid.lawful) 1 (option_to_list row) c.args.item ∙ ap (ending empty 1) (one_row row c.args.item)) }
