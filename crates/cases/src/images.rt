@@ -8,7 +8,7 @@ use element::fault::ElementFault;
 use element::kind::{Kind, UnknownKind};
 use image::fault::{BadElement, ImageFault};
 use image::header::kind_of;
-use image::opened::Image;
+use image::opened::{Image, OpenedImage};
 use image::row::{NoRow, write_row};
 use std::process::Abort;
 use std::test::Fail;
@@ -65,6 +65,36 @@ fn rows_are_read_back(rt: HostRuntime) -> Result<(), Fail> {
         (i64::MIN, u32::MAX, 0, u32::MAX),
         (i64::MAX, 0, u32::MAX, 0),
     )
+}
+
+// The older row first, and the image that it lends; and what is refused.
+#[test]
+fn an_opened_image_tells_its_rows(rt: HostRuntime) -> Result<(), Fail> {
+    let mut bytes = ring(Kind::Last.number());
+    let older = item::<Last>((-7, 1, 1, 1))?;
+    let newer = item::<Last>((0, 0, 0, 1))?;
+    write_row(&mut bytes, 1, older)?;
+    write_row(&mut bytes, 0, newer)?;
+    let opened = OpenedImage::<Last>::open(&bytes)?;
+    let mut rows = opened.rows();
+    assert_eq!(rt;
+        (rows.next(), rows.next(), rows.next()),
+        (Some(older), Some(newer), None)
+    );
+    let image = opened.image();
+    assert_eq!(rt;
+        (image.span(), image.held(), image.ask(0)),
+        (2, 2, Some(newer))
+    );
+    assert_eq!(rt;
+        OpenedImage::<Max>::open(&bytes).err(),
+        Some(ImageFault::Kind)
+    );
+    assert_eq!(rt;
+        OpenedImage::<Last>::open(&[0; 23]).err(),
+        Some(ImageFault::Length)
+    );
+    Ok(())
 }
 
 #[test]

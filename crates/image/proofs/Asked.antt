@@ -16,7 +16,7 @@ use Rattle.consolidation.specs.declared.item.Item.{Item}
 use Rattle.element.specs.declared.fault.ElementFault.{ElementFault}
 use Rattle.element.specs.Faults.{unless}
 use Rattle.image.specs.Rings.{slots, meaning_of, Kept}
-use Rattle.image.specs.Rows.{row_start, item_at, row_in}
+use Rattle.image.specs.Rows.{row_start, fault_at, item_at, row_in}
 use Rattle.image.proofs.Shown.{kept_long}
 
 -- in a list of rows
@@ -47,12 +47,17 @@ module _ (kind : ℕ) (fault : ℤ → ℕ → Option ElementFault) (c : Cursor)
     held : place < c.held
     held = place_held c age place w.turning there
 
-    pub asked_row : row_in fault decoded s place ≡ asked (empty_item empty) (item_counts empty) (meaning_of empty decoded c s) age
+    pub asked_row : result_ok (unless (fault_at fault s place) (item_at decoded s place)) ≡ asked (empty_item empty) (item_counts empty) (meaning_of empty decoded c s) age
     asked_row =
         let below = held in
         let within = w.turning.within in
-        let long = kept_long kind fault c s w (omega arith) in
-        cond-false _ None _ (le-ltb (length s) (row_start place + 20) (omega arith))
-        ∙ ap (λ o. result_ok (unless o (item_at decoded s place))) (w.elements place held)
+        ap (λ o. result_ok (unless o (item_at decoded s place))) (w.elements place held)
         ∙ ap Some (sym (get_or-map-range_with_len (item_at decoded s) 0 c.span place place (empty_item empty) (omega arith) (omega arith)))
         ∙ ring_found c places w.turning (empty_item empty) (item_counts empty) age place (empty_item empty) room there
+
+    pub asked_found : row_in fault decoded s place ≡ asked (empty_item empty) (item_counts empty) (meaning_of empty decoded c s) age
+    asked_found =
+        let below = held in
+        let within = w.turning.within in
+        let long = kept_long kind fault c s w (omega arith) in
+        cond-false _ None _ (le-ltb (length s) (row_start place + 20) (omega arith)) ∙ asked_row

@@ -1,5 +1,5 @@
 -- What is read of an opened image. Assumes nothing.
-use Rattle.std.proofs.Common.{◌≡◌, ℕ, ◌+◌, ◌-◌, ◌<◌, ◌≤◌, List, length, get_or, map, ℤ, Some, None, Option, sym, ap, ◌∙◌, subst, ⊎_elim, arith}
+use Rattle.std.proofs.Common.{◌≡◌, ℕ, ◌+◌, ◌-◌, ◌<◌, ◌≤◌, List, length, get_or, drop, map, ℤ, Some, None, Option, sym, refl, ap, ◌∙◌, subst, ⊎_elim, arith}
 use Rattle.std.specs.List.{slice_get}
 use Rattle.std.specs.Result.{result_ok}
 use Rattle.std.proofs.lemmas.Option.{slice_get_past}
@@ -61,27 +61,45 @@ module _ (kind : ℕ) (fault : ℤ → ℕ → Option ElementFault) (h : Header)
   within : h.head ≤ h.held
   within = subst (λ g. g.head ≤ g.held) (sym w.header_is) (head_within kind (length s) (header_in s) (header_sound kind fault s w.sound))
 
-  -- it lies within the bytes, and is read at its place
-  row_read : {E : Type 0} (decoded : ℤ → ℕ → E) (index : ℕ) → index < h.held → row_in fault decoded s (place_of h.head h.held index) ≡ slice_get (rows_in decoded s) index
-  row_read decoded index below =
+  -- it lies within the bytes
+  module _ (index place : ℕ) (below : index < h.held) (is : place ≡ place_of h.head h.held index) where
+    held : place < (header_in s).held
+    held = subst (λ g. place < g.held) w.header_is (subst (λ p. p < h.held) (sym is) (place_held h.head h.held index within below))
+
+    pub row_room : row_start place + 20 ≤ length s
+    row_room =
+        let sound = header_sound kind fault s w.sound in
+        let here = held in
+        omega arith
+
+    pub row_read : {E : Type 0} (decoded : ℤ → ℕ → E) → result_ok (unless (fault_at fault s place) (item_at decoded s place)) ≡ slice_get (rows_in decoded s) index
+    row_read decoded =
+        ap (λ o. result_ok (unless o (item_at decoded s place))) (row_sound kind fault s w.sound place held)
+        ∙ ap (λ p. Some (item_at decoded s p)) is
+        ∙ row_of_index h (item_at decoded s) index within below
+        ∙ ap (λ g. slice_get (map (item_at decoded s) (places g)) index) w.header_is
+
+  -- and is read at its place
+  row_found : {E : Type 0} (decoded : ℤ → ℕ → E) (index : ℕ) → index < h.held → row_in fault decoded s (place_of h.head h.held index) ≡ slice_get (rows_in decoded s) index
+  row_found decoded index below =
       let place = place_of h.head h.held index in
-      let sound = header_sound kind fault s w.sound in
-      let held : place < (header_in s).held = subst (λ g. place < g.held) w.header_is (place_held h.head h.held index within below) in
-      cond-false _ None _ (le-ltb (length s) (row_start place + 20) (omega arith))
-      ∙ ap (λ o. result_ok (unless o (item_at decoded s place))) (row_sound kind fault s w.sound place held)
-      ∙ row_of_index h (item_at decoded s) index within below
-      ∙ ap (λ g. slice_get (map (item_at decoded s) (places g)) index) w.header_is
+      cond-false _ None _ (le-ltb (length s) (row_start place + 20) (row_room index place below refl))
+      ∙ row_read index place below refl decoded
 
   pub row_opened : {E : Type 0} (decoded : ℤ → ℕ → E) (index : ℕ) → row_of fault decoded h s index ≡ slice_get (rows_in decoded s) index
   row_opened decoded index =
       ⊎_elim
-      (λ below. cond-false _ None _ (or_from _ _ (lt-leb h.held index below) (le-ltb h.held h.head within)) ∙ row_read decoded index below)
+      (λ below. cond-false _ None _ (or_from _ _ (lt-leb h.held index below) (le-ltb h.held h.head within)) ∙ row_found decoded index below)
       (λ old.
       let end : length (rows_in decoded s) ≤ index = omega (arith, ap (λ g. g.held) w.header_is, length-rows (header_in s) (item_at decoded s)) in
       cond-true _ None _ (or_left _ _ (le-leb h.held index old)) ∙ sym (slice_get_past (rows_in decoded s) index end))
       (cases_lt index h.held)
 
+  -- what is left of them from an index on
+  pub rows_left : {E : Type 0} (decoded : ℤ → ℕ → E) (index : ℕ) → index ≤ h.held → run (row_of fault decoded h s) index (h.held - index) ≡ drop index (rows_in decoded s)
+  rows_left decoded index p =
+      run_from (row_of fault decoded h s) (rows_in decoded s) (row_opened decoded) (h.held - index) index (omega (arith, ap (λ g. g.held) w.header_is, length-rows (header_in s) (item_at decoded s)))
+
   -- all of them, one by one
   pub rows_opened : {E : Type 0} (decoded : ℤ → ℕ → E) → run (row_of fault decoded h s) 0 (h.held - 0) ≡ rows_in decoded s
-  rows_opened decoded =
-      run_from (row_of fault decoded h s) (rows_in decoded s) (row_opened decoded) (h.held - 0) 0 (omega (arith, ap (λ g. g.held) w.header_is, length-rows (header_in s) (item_at decoded s)))
+  rows_opened decoded = rows_left decoded 0 (omega arith)

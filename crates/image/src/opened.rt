@@ -173,6 +173,40 @@ impl<'a, E: Coded + Copy> Image<'a, E> {
     }
 }
 
+// An image whose type says that it was opened: what is promised of it has no premise. With today's kit it gets no proof in a pair, in an option or in a type argument beside a `&mut`, nor where an element of an array of them is replaced; an `Image` does.
+#[derive(Drop)]
+pub struct OpenedImage<'a, E: Coded> {
+    image: Image<'a, E>,
+    pub ghost opened: { Opened (number_of_kind E.Coded.KIND) E.Coded.fault image.header image.bytes.now },
+}
+
+impl<'a, E: Coded + Copy> OpenedImage<'a, E> {
+    // As `Image::open`.
+    pub fn open(bytes: &'a [u8]) -> Result<OpenedImage<'a, E>, ImageFault>
+        ensures bytes { IfOk result (λ opened. opened.image.bytes.now ≡ bytes.now) }
+        ensures ruled { OnOk result (Ruled (number_of_kind E.Coded.KIND) E.Coded.fault bytes.now) }
+        ensures fault { result_err result ≡ image_fault (number_of_kind E.Coded.KIND) E.Coded.fault bytes.now }
+    {
+        let image = Image::open(bytes)?;
+        Ok(OpenedImage { image })
+    }
+
+    // The image, and that it was opened, which is the premise of what it promises.
+    pub fn image(&self) -> &Image<'a, E>
+        ensures is { result.now ≡ self.now.image }
+        ensures opened { Opened (number_of_kind E.Coded.KIND) E.Coded.fault result.now.header result.now.bytes.now }
+    {
+        &self.image
+    }
+
+    // The rows that are held, the oldest first.
+    pub fn rows(&self) -> Rows<'_, 'a, E>
+        ensures { result ≡ rows_in E.Coded.decoded self.now.image.bytes.now }
+    {
+        self.image.rows()
+    }
+}
+
 impl<'i, 'a, E: Coded + Copy> Iterator for Rows<'i, 'a, E> {
     type Item = Item<E>;
 
@@ -180,7 +214,7 @@ impl<'i, 'a, E: Coded + Copy> Iterator for Rows<'i, 'a, E> {
 
     ghost remaining = { item_count (λ rest. rest) };
 
-    #[tactic(auto, using(crate::proofs::Left::none_left))]
+    #[tactic(auto, using(crate::proofs::Left::none_run))]
     fn next(&mut self) -> Option<Item<E>> {
         let row = row_of(self.image.bytes, &self.image.header, self.index)?;
         self.index += 1;

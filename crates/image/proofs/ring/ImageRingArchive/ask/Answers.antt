@@ -1,6 +1,6 @@
 use Rattle.std.proofs.Common.{sym, ◌∙◌}
 use Rattle.element.specs.Kinds.{number_of_kind}
-use Rattle.image.proofs.Asked.{asked_none, asked_row}
+use Rattle.image.proofs.Asked.{asked_none, asked_found}
 use Rattle.image.proofs.ring.ImageRingArchive.ask.Goals as goal
 
 pub returns : goal.returns
@@ -11,7 +11,7 @@ returns g c well =
     let s = ring.bytes.now in
     let there = sym (c.place.ensures well.turning) ∙ c.in_ok-place.was in
     c.row_at.ensures
-    ∙ asked_row kind fault ring.cursor s well g.E.Monoid.empty g.E.Coded.decoded c.args.age _ there
+    ∙ asked_found kind fault ring.cursor s well g.E.Monoid.empty g.E.Coded.decoded c.args.age _ there
 
 pub returns-in_err-place : goal.returns-in_err-place
 returns-in_err-place g c well =
