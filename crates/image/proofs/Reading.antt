@@ -3,6 +3,7 @@ use Rattle.std.proofs.Common.{◌≡◌, ℕ, ◌+◌, ◌-◌, ◌<◌, ◌≤�
 use Rattle.std.specs.List.{slice_get}
 use Rattle.std.specs.Result.{result_ok}
 use Rattle.std.proofs.lemmas.Option.{slice_get_past}
+use Rattle.std.proofs.lemmas.List.{drop_all}
 use Rattle.std.proofs.lemmas.Bool.{cases_lt, le-leb, lt-leb, le-ltb, or_from, or_left, cond-true, cond-false}
 use Rattle.std.proofs.lemmas.Bool.Decides.{nat_tests as tells}
 use Rattle.consolidation.specs.declared.item.Item.{Item}
@@ -61,7 +62,7 @@ module _ (kind : ℕ) (fault : ℤ → ℕ → Option ElementFault) (h : Header)
   within : h.head ≤ h.held
   within = subst (λ g. g.head ≤ g.held) (sym w.header_is) (head_within kind (length s) (header_in s) (header_sound kind fault s w.sound))
 
-  -- it lies within the bytes
+  -- it lies within the bytes, and is read at its place
   module _ (index place : ℕ) (below : index < h.held) (is : place ≡ place_of h.head h.held index) where
     held : place < (header_in s).held
     held = subst (λ g. place < g.held) w.header_is (subst (λ p. p < h.held) (sym is) (place_held h.head h.held index within below))
@@ -79,7 +80,7 @@ module _ (kind : ℕ) (fault : ℤ → ℕ → Option ElementFault) (h : Header)
         ∙ row_of_index h (item_at decoded s) index within below
         ∙ ap (λ g. slice_get (map (item_at decoded s) (places g)) index) w.header_is
 
-  -- and is read at its place
+  -- the same, of what is read where there may be no such row
   row_found : {E : Type 0} (decoded : ℤ → ℕ → E) (index : ℕ) → index < h.held → row_in fault decoded s (place_of h.head h.held index) ≡ slice_get (rows_in decoded s) index
   row_found decoded index below =
       let place = place_of h.head h.held index in
@@ -95,11 +96,18 @@ module _ (kind : ℕ) (fault : ℤ → ℕ → Option ElementFault) (h : Header)
       cond-true _ None _ (or_left _ _ (le-leb h.held index old)) ∙ sym (slice_get_past (rows_in decoded s) index end))
       (cases_lt index h.held)
 
-  -- what is left of them from an index on
-  pub rows_left : {E : Type 0} (decoded : ℤ → ℕ → E) (index : ℕ) → index ≤ h.held → run (row_of fault decoded h s) index (h.held - index) ≡ drop index (rows_in decoded s)
-  rows_left decoded index p =
-      run_from (row_of fault decoded h s) (rows_in decoded s) (row_opened decoded) (h.held - index) index (omega (arith, ap (λ g. g.held) w.header_is, length-rows (header_in s) (item_at decoded s)))
+  -- what is left of them from an index on; none past the newest
+  pub rows_left : {E : Type 0} (decoded : ℤ → ℕ → E) (index : ℕ) → run (row_of fault decoded h s) index (h.held - index) ≡ drop index (rows_in decoded s)
+  rows_left decoded index =
+      let rows = rows_in decoded s in
+      let all : length rows ≡ h.held = sym (ap (λ g. g.held) w.header_is ∙ length-rows (header_in s) (item_at decoded s)) in
+      ⊎_elim
+      (λ below. run_from (row_of fault decoded h s) rows (row_opened decoded) (h.held - index) index (omega (arith, all)))
+      (λ old.
+      let none : h.held - index ≡ 0 = omega arith in
+      ap (run (row_of fault decoded h s) index) none ∙ sym (drop_all index rows (omega (arith, all))))
+      (cases_lt index h.held)
 
   -- all of them, one by one
   pub rows_opened : {E : Type 0} (decoded : ℤ → ℕ → E) → run (row_of fault decoded h s) 0 (h.held - 0) ≡ rows_in decoded s
-  rows_opened decoded = rows_left decoded 0 (omega arith)
+  rows_opened decoded = rows_left decoded 0
