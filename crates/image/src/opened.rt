@@ -173,7 +173,7 @@ impl<'a, E: Coded + Copy> Image<'a, E> {
     }
 }
 
-// An image whose type says that it was opened: what is promised of it has no premise. With today's kit it gets no proof where a pair, an option or a type argument has a `&mut` beside it, nor where an element of an array of them is replaced; an `Image` does.
+// An image whose type says that it was opened: what is promised of it has no premise. With today's kit some code gets no proof with it that does with an `Image`: a pair of it and a `&mut` that is handed out, say, or an element of an array of them that is replaced.
 #[derive(Drop)]
 pub struct OpenedImage<'a, E: Coded> {
     image: Image<'a, E>,
